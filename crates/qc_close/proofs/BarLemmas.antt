@@ -1,5 +1,5 @@
 -- Tasks summed up: of two tests that no task passes both of, and of the tasks that bar a crane.
-use Rattle.std.proofs.Common.{◌≡◌, ◌≢◌, ℕ, zero, suc, ◌+◌, ◌*◌, ◌^◌, ◌<◌, ◌≤◌, inl, inr, Bool, true, false, ◌&&◌, ◌||◌, eqb, leb, nat_lt, cond, List, [], ◌∷◌, length, get_or, map, filter, Option, None, Some, IfSome, ℤ, pos, negsuc, ◌≤ℤ◌, int_le, refl, ap, sym, subst, ◌∙◌, arith, add-one}
+use Rattle.std.proofs.Common.{[], ◌≡◌, ◌≢◌, ℕ, zero, suc, ◌+◌, ◌*◌, ◌^◌, ◌<◌, ◌≤◌, inl, inr, Bool, true, false, ◌&&◌, ◌||◌, eqb, leb, nat_lt, cond, List, ◌∷◌, length, get_or, map, filter, Option, None, Some, IfSome, ℤ, pos, negsuc, ◌≤ℤ◌, int_le, refl, ap, sym, subst, ◌∙◌, arith, add-one}
 use Rattle.std.proofs.lemmas.Bool.{and_from, and_parts, cases_lt, cond-false, eq-eqb, eqb-true, false≢true, le-leb, le-ltb, leb-true, lt-leb, lt-ltb, ltb-true, ne_eqb, or_cases, or_left, or_right}
 use Rattle.std.proofs.lemmas.Int.{int_max_is, int_min_is, ints}
 use Rattle.std.proofs.lemmas.List.Sums.{sum_by-cons}
@@ -23,8 +23,7 @@ use Rattle.qc_close.specs.declared.bars.TheConstants.{NEVER}
 use Rattle.qc_close.specs.declared.frames.Own.{Own}
 use Rattle.qc_close.proofs.CountLemmas.{sum_filter}
 use Rattle.qc_close.proofs.CrewLemmas.{sum_few}
-use Rattle.qc_close.proofs.FrameLemmas.{highest_to, lowest_from}
-use Rattle.qc_close.proofs.BarredLemmas.{highest_at, lowest_at}
+use Rattle.qc_close.proofs.Extremes.{highest_to, lowest_from, highest_at, lowest_at}
 use Rattle.qc_close.proofs.Members.{Among, all_at, all_from, range_among}
 use Rattle.qc_close.proofs.OwnLemmas.{own_cons, small_more}
 

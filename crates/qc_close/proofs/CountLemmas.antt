@@ -1,7 +1,7 @@
 -- Sums over cranes: of some of them, of the greatest and of the least.
-use Rattle.std.proofs.Common.{◌≡◌, ℕ, zero, suc, ◌+◌, ◌-◌, ◌*◌, ◌≤◌, inl, inr, Bool, true, false, not, cond, List, [], ◌∷◌, length, map, refl, ap, sym, subst, arith, filter, sum_by, count_by}
+use Rattle.std.proofs.Common.{[], ◌<◌, ◌≡◌, ℕ, zero, suc, ◌+◌, ◌-◌, ◌*◌, ◌≤◌, inl, inr, Bool, true, false, not, cond, List, ◌∷◌, length, map, refl, ap, sym, subst, arith, filter, sum_by, count_by}
 use Rattle.std.proofs.Math.Nat.{mul-add, mul-zero}
-use Rattle.std.proofs.lemmas.Bool.{cases_Bool, cond-true, cond_both}
+use Rattle.std.proofs.lemmas.Bool.{cases_lt, cases_Bool, cond-true, cond_both}
 use Rattle.std.proofs.lemmas.List.{length-map}
 use Rattle.std.proofs.lemmas.List.Sums.{sum-map, sum_by-cons}
 use Rattle.qc_model.specs.Closed.{fewest, most}
@@ -132,3 +132,10 @@ shared f p q ws (j ∷ js) has =
           omega (arith, this, its, member_le (λ w. cond (q w j) (f j) 0) ws w.0 w.1)
       | inr t ↦ let this = ap (λ b. cond b (f j) 0) t in omega (arith, this)
     ]
+
+pub some_term : (f : ℕ → ℕ) (xs : List ℕ) → 0 < sum_by f xs → (x : ℕ) × Among xs x × (0 < f x)
+some_term f [] h = absurd (omega arith)
+some_term f (x ∷ xs) h = elim (cases_lt 0 (f x)) [
+  | inl l ↦ (x, inl refl, l)
+  | inr l ↦ let r = some_term f xs (omega (arith, sum_by-cons f x xs)) in (r.0, inr r.1, r.2)
+]

@@ -1,20 +1,22 @@
 -- The work that is left at each bay as tasks get and lose their cranes, and that what code tries is what is to be tried.
-use Rattle.std.proofs.Common.{◌≡◌, ◌≢◌, ℕ, zero, suc, ◌+◌, ◌-◌, ◌*◌, ◌<◌, ◌≤◌, inl, inr, Bool, true, false, ◌&&◌, eqb, leb, nat_lt, cond, List, [], ◌∷◌, length, get_or, set, map, replicate, filter, is_none, Option, None, Some, ℤ, pos, negsuc, ◌≤ℤ◌, of_z, to_z, w32, take, refl, ap, sym, subst, ◌∙◌, arith, sum_by}
+use Rattle.std.proofs.Common.{[], ◌≡◌, ◌≢◌, ℕ, zero, suc, ◌+◌, ◌-◌, ◌*◌, ◌<◌, ◌≤◌, inl, inr, Bool, true, false, ◌&&◌, eqb, leb, nat_lt, cond, List, ◌∷◌, length, get_or, set, map, replicate, filter, is_none, Option, None, Some, ℤ, pos, negsuc, ◌≤ℤ◌, of_z, to_z, w32, take, refl, ap, sym, subst, ◌∙◌, arith, sum_by}
+use Rattle.std.proofs.Math.Nat.{mul-zero}
 use Rattle.std.proofs.Math.Path.{fun_ext}
 use Rattle.std.proofs.Math.IntN.{nat_abs}
 use Rattle.std.proofs.lemmas.Int.{ints}
-use Rattle.std.proofs.lemmas.Bool.{cases_eq, cases_lt, eq-eqb, ne_eqb, le-leb, lt-leb, lt-ltb}
-use Rattle.std.proofs.lemmas.List.{get_or-set_other, get_or-set_same, length-set}
+use Rattle.std.proofs.lemmas.Bool.{cases_eq, cases_lt, eq-eqb, ne_eqb, le-leb, le-ltb, lt-leb, lt-ltb}
+use Rattle.std.proofs.lemmas.Grind.{get_or-set_at}
+use Rattle.std.proofs.lemmas.List.{get_or-set_other, get_or-set_same, length-replicate, length-set}
+use Rattle.std.proofs.lemmas.List.FromFn.{fill_by_all, get_or-map-range_with_len, length-map-range_with_len}
 use Rattle.std.proofs.lemmas.List.Sums.{sum_by-cons}
 use Rattle.std.specs.List.{range_with_len}
-use Rattle.qc_dist.proofs.Ranges.{sum_more}
 use Rattle.qc_model.specs.declared.frame.Frame.{Frame}
 use Rattle.qc_model.specs.declared.limits.TheConstants.{MOST_TASKS, MOST_WORK}
 use Rattle.qc_model.specs.declared.task.Task.{Task}
 use Rattle.qc_model.specs.Assignments.{crane_in, no_cranes}
 use Rattle.qc_model.specs.Bays.{at_least_zero}
 use Rattle.qc_model.specs.Closed.{Try, grain, is_short, last_before, left_at, left_bays, try_with, work_at}
-use Rattle.qc_model.specs.Instance.{InstanceView, Valid, bay_of, no_task, ticks_of}
+use Rattle.qc_model.specs.Instance.{InstanceView, Valid, bay_of, task, ticks_of}
 use Rattle.qc_model.specs.Work.{crane_numbers, task_numbers, ticks_over}
 use Rattle.qc_model.proofs.Bays.{bays}
 use Rattle.qc_model.proofs.LimitsOf.{limits_of}
@@ -110,6 +112,19 @@ module _ (inst : InstanceView) where
     inside : j < length cranes
     inside = omega (arith, many)
 
+    -- with other cranes the work is another at its bay alone
+    left_set : (others : List (Option ℕ)) (n : ℕ) → n ≡ work_at inst others (at j)
+        → ((x : ℕ) → x ≢ at j → work_at inst cranes x ≡ work_at inst others x) → IsLeft inst others (set left (at j) n)
+    left_set others n here same = record {
+      count = length-set left (at j) n ∙ is.count;
+      work = λ x. elim (cases_eq x (at j)) [
+        | inl e ↦
+            subst (λ (y : ℕ). get_or (set left (at j) n) y 0 ≡ work_at inst others y) (sym e)
+            (get_or-set_same left (at j) n 0 on_ship ∙ here)
+        | inr differ ↦ get_or-set_other left (at j) x n 0 differ ∙ is.work x ∙ same x differ
+      ];
+    }
+
     module _ (k : ℕ) (free : crane_in cranes j ≡ None) where
       put_change : (x : ℕ) → work_at inst cranes x ≡ work_at inst (set cranes j (Some k)) x + cond (eqb (at j) x) (ticks_of inst j) 0
       put_change =
@@ -121,28 +136,10 @@ module _ (inst : InstanceView) where
           omega (arith, is.work (at j), put_change (at j), ap (λ c. cond c (ticks_of inst j) 0) (eq-eqb (at j) (at j) refl))
 
       pub left_put : IsLeft inst (set cranes j (Some k)) (set left (at j) (get_or left (at j) 0 - ticks_of inst j))
-      left_put = record {
-        count = length-set left (at j) (get_or left (at j) 0 - ticks_of inst j) ∙ is.count;
-        work = λ x. elim (cases_eq x (at j)) [
-          | inl same ↦
-              subst (λ (y : ℕ). get_or (set left (at j) (get_or left (at j) 0 - ticks_of inst j)) y 0 ≡ work_at inst (set cranes j (Some k)) y) (sym same)
-              (omega (
-                arith,
-                get_or-set_same left (at j) (get_or left (at j) 0 - ticks_of inst j) 0 on_ship,
-                is.work (at j),
-                put_change (at j),
-                ap (λ c. cond c (ticks_of inst j) 0) (eq-eqb (at j) (at j) refl),
-              ))
-          | inr differ ↦
-              omega (
-                arith,
-                get_or-set_other left (at j) x (get_or left (at j) 0 - ticks_of inst j) 0 differ,
-                is.work x,
-                put_change x,
-                ap (λ c. cond c (ticks_of inst j) 0) (ne_eqb (at j) x (λ e. differ (sym e))),
-              )
-        ];
-      }
+      left_put =
+          left_set (set cranes j (Some k)) (get_or left (at j) 0 - ticks_of inst j)
+          (omega (arith, is.work (at j), put_change (at j), ap (λ c. cond c (ticks_of inst j) 0) (eq-eqb (at j) (at j) refl)))
+          (λ x differ. omega (arith, put_change x, ap (λ c. cond c (ticks_of inst j) 0) (ne_eqb (at j) x (λ e. differ (sym e)))))
 
     module _ (taken : is_none (crane_in cranes j) ≡ false) where
       take_change : (x : ℕ) → work_at inst (set cranes j None) x ≡ work_at inst cranes x + cond (eqb (at j) x) (ticks_of inst j) 0
@@ -151,28 +148,10 @@ module _ (inst : InstanceView) where
           (λ i differ. cranes_else cranes j None i differ)
 
       pub left_take : IsLeft inst (set cranes j None) (set left (at j) (get_or left (at j) 0 + ticks_of inst j))
-      left_take = record {
-        count = length-set left (at j) (get_or left (at j) 0 + ticks_of inst j) ∙ is.count;
-        work = λ x. elim (cases_eq x (at j)) [
-          | inl same ↦
-              subst (λ (y : ℕ). get_or (set left (at j) (get_or left (at j) 0 + ticks_of inst j)) y 0 ≡ work_at inst (set cranes j None) y) (sym same)
-              (omega (
-                arith,
-                get_or-set_same left (at j) (get_or left (at j) 0 + ticks_of inst j) 0 on_ship,
-                is.work (at j),
-                take_change (at j),
-                ap (λ c. cond c (ticks_of inst j) 0) (eq-eqb (at j) (at j) refl),
-              ))
-          | inr differ ↦
-              omega (
-                arith,
-                get_or-set_other left (at j) x (get_or left (at j) 0 + ticks_of inst j) 0 differ,
-                is.work x,
-                take_change x,
-                ap (λ c. cond c (ticks_of inst j) 0) (ne_eqb (at j) x (λ e. differ (sym e))),
-              )
-        ];
-      }
+      left_take =
+          left_set (set cranes j None) (get_or left (at j) 0 + ticks_of inst j)
+          (omega (arith, is.work (at j), take_change (at j), ap (λ c. cond c (ticks_of inst j) 0) (eq-eqb (at j) (at j) refl)))
+          (λ x differ. omega (arith, take_change x, ap (λ c. cond c (ticks_of inst j) 0) (ne_eqb (at j) x (λ e. differ (sym e)))))
 
   pub work_within : Valid inst → (cranes : List (Option ℕ)) (x : ℕ) → work_at inst cranes x ≤ MOST_TASKS * MOST_WORK
   work_within valid cranes x =
@@ -225,94 +204,86 @@ nothing_there zero x = refl
 nothing_there (suc n) zero = refl
 nothing_there (suc n) (suc x) = nothing_there n x
 
--- the ticks of the first n tasks at each bay
-pub record AreAdded (inst : InstanceView) (n : ℕ) (left : List ℕ) : Type 0 where
-  pub count : length left ≡ inst.bays + 1
-  pub work : (x : ℕ) → get_or left x 0 ≡ sum_by (λ j. cond (eqb (at inst j) x) (ticks_of inst j) 0) (range_with_len 0 n)
-  pub small : (x : ℕ) → get_or left x 0 ≤ n * MOST_WORK
+-- the first i tasks have no crane any more, the others have one
+abbrev held : Bool → Option ℕ
+held b = cond b None (Some 0)
+
+abbrev opens : ℕ → ℕ → Option ℕ
+opens i j = held (nat_lt j i)
+
+abbrev pub opened : InstanceView → ℕ → List (Option ℕ)
+opened inst i = map (opens i) (range_with_len 0 (length inst.tasks))
 
 module _ (inst : InstanceView) where
-  pub none_added : (left : List ℕ) → length left ≡ inst.bays + 1 → left ≡ replicate (inst.bays + 1) 0 → AreAdded inst 0 left
-  none_added left count is = record {
-    count = count;
-    work = λ x. ap (λ (xs : List ℕ). get_or xs x 0) is ∙ nothing_there (inst.bays + 1) x;
-    small = λ x. omega (arith, ap (λ (xs : List ℕ). get_or xs x 0) is, nothing_there (inst.bays + 1) x);
-  }
+  opened_many : (i : ℕ) → length (opened inst i) ≡ length inst.tasks
+  opened_many i = length-map-range_with_len (opens i) 0 (length inst.tasks)
 
-  pub one_added : (n : ℕ) (left : List ℕ) (x ticks : ℕ) → AreAdded inst n left → x ≡ at inst n → x < length left
-      → ticks ≡ ticks_of inst n → ticks ≤ MOST_WORK → AreAdded inst (n + 1) (set left x (get_or left x 0 + ticks))
-  one_added n left x ticks added at_is low ticks_is few = record {
-    count = length-set left x (get_or left x 0 + ticks) ∙ added.count;
-    work = λ y. elim (cases_eq y x) [
-      | inl same ↦
-          subst (λ (z : ℕ). get_or (set left x (get_or left x 0 + ticks)) z 0 ≡ sum_by (term z) (range_with_len 0 (n + 1))) (sym same)
-          (omega (
-            arith,
-            get_or-set_same left x (get_or left x 0 + ticks) 0 low,
-            added.work x,
-            sum_more (term x) n,
-            ap (λ c. cond c (ticks_of inst n) 0) (eq-eqb (at inst n) x (sym at_is)),
-            ticks_is,
-          ))
-      | inr differ ↦
-          omega (
-            arith,
-            get_or-set_other left x y (get_or left x 0 + ticks) 0 differ,
-            added.work y,
-            sum_more (term y) n,
-            ap (λ c. cond c (ticks_of inst n) 0) (ne_eqb (at inst n) y (λ e. differ (sym e ∙ sym at_is))),
-          )
-    ];
-    small = λ y. elim (cases_eq y x) [
-      | inl same ↦
-          subst (λ (z : ℕ). get_or (set left x (get_or left x 0 + ticks)) z 0 ≤ (n + 1) * MOST_WORK) (sym same)
-          (omega (arith, get_or-set_same left x (get_or left x 0 + ticks) 0 low, added.small x, few))
-      | inr differ ↦
-          omega (arith, get_or-set_other left x y (get_or left x 0 + ticks) 0 differ, added.small y)
-    ];
+  opened_at : (i j : ℕ) → j < length inst.tasks → crane_in (opened inst i) j ≡ opens i j
+  opened_at i j low = get_or-map-range_with_len (opens i) 0 (length inst.tasks) j j None low (omega arith)
+
+  pub none_opened : (left : List ℕ) → left ≡ replicate (inst.bays + 1) 0 → IsLeft inst (opened inst 0) left
+  none_opened left is = record {
+    count = ap length is ∙ length-replicate (inst.bays + 1) 0;
+    work = λ x.
+        ap (λ (xs : List ℕ). get_or xs x 0) is ∙ nothing_there (inst.bays + 1) x
+        ∙ omega (arith, work_is inst (opened inst 0) x, sum_few (term inst (opened inst 0) x) 0 0 (length inst.tasks) (none x), mul-zero (length inst.tasks));
   }
     where
-      term : ℕ → ℕ → ℕ
-      term y j = cond (eqb (at inst j) y) (ticks_of inst j) 0
+      none : (x j : ℕ) → j < 0 + length inst.tasks → term inst (opened inst 0) x j ≤ 0
+      none x j low =
+          let e = opened_at 0 j (omega (arith, low)) ∙ ap held (le-ltb j 0 (omega arith)) in
+          omega (arith, ap (λ o. cond (is_none o && eqb (at inst j) x) (ticks_of inst j) 0) e)
 
-  pub all_added : (left : List ℕ) → AreAdded inst (length inst.tasks) left → IsLeft inst (no_cranes inst) left
-  all_added left added = record {
-    count = added.count;
-    work = λ x.
-        added.work x
-        ∙ sym (work_is inst (no_cranes inst) x
-        ∙ sum_same (term inst (no_cranes inst) x) (λ j. cond (eqb (at inst j) x) (ticks_of inst j) 0) 0 (length inst.tasks)
-        (λ j _. ap (λ o. cond (is_none o && eqb (at inst j) x) (ticks_of inst j) 0) (none_there (length inst.tasks) j)));
-  }
+  opened_next : (i : ℕ) → i < length inst.tasks → set (opened inst i) i None ≡ opened inst (i + 1)
+  opened_next i low =
+      fill_by_all (opens (i + 1)) (set (opened inst i) i None) (length inst.tasks) None
+      (length-set (opened inst i) i None ∙ opened_many i) at_each
+    where
+      other : (j : ℕ) → j < length inst.tasks → j ≢ i → nat_lt j i ≡ nat_lt j (i + 1)
+          → crane_in (set (opened inst i) i None) j ≡ opens (i + 1) j
+      other j under differ same =
+          cranes_else inst (opened inst i) i None j differ ∙ opened_at i j under ∙ ap held same
+
+      at_each : (j : ℕ) → j < length inst.tasks → crane_in (set (opened inst i) i None) j ≡ opens (i + 1) j
+      at_each j under = elim (cases_eq j i) [
+        | inl e ↦
+            get_or-set_at (opened inst i) i j None None e (omega (arith, opened_many i, low))
+            ∙ sym (ap held (lt-ltb j (i + 1) (omega (arith, e))))
+        | inr differ ↦ elim (cases_lt j i) [
+          | inl less ↦ other j under differ (lt-ltb j i less ∙ sym (lt-ltb j (i + 1) (omega arith)))
+          | inr more ↦ elim (cases_lt i j) [
+            | inl above ↦ other j under differ (le-ltb j i more ∙ sym (le-ltb j (i + 1) (omega (arith, above))))
+            | inr same ↦ absurd (differ (omega (arith, more, same)))
+          ]
+        ]
+      ]
+
+  pub all_opened : (left : List ℕ) (n : ℕ) → n ≡ length inst.tasks → IsLeft inst (opened inst n) left
+      → IsLeft inst (no_cranes inst) left
+  all_opened left n is =
+      subst (λ (cs : List (Option ℕ)). IsLeft inst cs left)
+      (sym (fill_by_all (opens n) (no_cranes inst) (length inst.tasks) None (length-replicate {A = Option ℕ} (length inst.tasks) None)
+      (λ j low. none_there (length inst.tasks) j
+      ∙ sym (ap held (lt-ltb j n (omega (arith, low, is)))))))
 
 pub bay_index : (z : ℤ) → pos 1 ≤ℤ z → z ≤ℤ pos 6000 → nat_abs (to_z w32 (of_z w32 z)) ≡ at_least_zero z
 bay_index (pos n) low high = omega (arith, ints)
 bay_index (negsuc n) low high = absurd (omega (arith, ints))
 
 -- as the code reads a task
-pub added_at : (inst : InstanceView) → Valid inst → (tasks : List Task) → tasks ≡ inst.tasks → (n : ℕ) (left : List ℕ)
-    → n < length tasks → AreAdded inst n left
-    → AreAdded inst (n + 1) (set left (nat_abs (to_z w32 (of_z w32 (get_or tasks n no_task).bay)))
-    (get_or left (nat_abs (to_z w32 (of_z w32 (get_or tasks n no_task).bay))) 0 + (get_or tasks n no_task).ticks))
-added_at inst valid tasks is n left low added =
-    let P : List Task → Type 0 = λ ts. n < length ts
-    → AreAdded inst (n + 1) (set left (nat_abs (to_z w32 (of_z w32 (get_or ts n no_task).bay)))
-    (get_or left (nat_abs (to_z w32 (of_z w32 (get_or ts n no_task).bay))) 0 + (get_or ts n no_task).ticks)) in
-    subst P (sym is) here low
-  where
-    here : n < length inst.tasks
-        → AreAdded inst (n + 1) (set left (nat_abs (to_z w32 (of_z w32 (bay_of inst n))))
-        (get_or left (nat_abs (to_z w32 (of_z w32 (bay_of inst n)))) 0 + ticks_of inst n))
-    here low =
-        let on_ship = valid.tasks.bays n low in
-        let most = (limits_of inst valid).bays.1 in
-        let x_is = bay_index (bay_of inst n) on_ship.0 (omega (arith, ints, on_ship.1, most)) in
-        one_added inst n left (nat_abs (to_z w32 (of_z w32 (bay_of inst n)))) (ticks_of inst n) added x_is
-        (omega (arith, ints, bays, x_is, on_ship.1, added.count)) refl (ticks_bounded inst valid n low)
-
-pub added_all : (inst : InstanceView) (n : ℕ) (left : List ℕ) → n ≡ length inst.tasks → AreAdded inst n left
-    → IsLeft inst (no_cranes inst) left
-added_all inst n left is added = all_added inst left (subst (λ (k : ℕ). AreAdded inst k left) is added)
+pub one_opened : (inst : InstanceView) → Valid inst → (n : ℕ) (left : List ℕ) (t : Task) → n < length inst.tasks
+    → t ≡ task inst n → IsLeft inst (opened inst n) left
+    → IsLeft inst (opened inst (n + 1)) (set left (nat_abs (to_z w32 (of_z w32 t.bay))) (get_or left (nat_abs (to_z w32 (of_z w32 t.bay))) 0 + t.ticks))
+one_opened inst valid n left t low t_is is =
+    let on_ship = valid.tasks.bays n low in
+    let most = (limits_of inst valid).bays.1 in
+    let x_is = bay_index (bay_of inst n) on_ship.0 (omega (arith, ints, on_ship.1, most)) in
+    let taken = opened_at inst n n low ∙ ap held (le-ltb n n (omega arith)) in
+    subst (λ (u : Task). IsLeft inst (opened inst (n + 1)) (set left (nat_abs (to_z w32 (of_z w32 u.bay))) (get_or left (nat_abs (to_z w32 (of_z w32 u.bay))) 0 + u.ticks)))
+    (sym t_is)
+    (subst (λ (x : ℕ). IsLeft inst (opened inst (n + 1)) (set left x (get_or left x 0 + ticks_of inst n))) (sym x_is)
+    (subst (λ (cs : List (Option ℕ)). IsLeft inst cs (set left (at inst n) (get_or left (at inst n) 0 + ticks_of inst n))) (opened_next inst n low)
+    (left_take inst (opened inst n) left is n low (opened_many inst n) (omega (arith, ints, bays, x_is, on_ship.1, is.count)) (ap is_none taken))))
 
 -- ---- what code asks for
 

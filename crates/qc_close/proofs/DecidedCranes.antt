@@ -1,5 +1,5 @@
 -- What decisions say of cranes, as it changes by a decision.
-use Rattle.std.proofs.Common.{◌≡◌, ℕ, ◌<◌, inl, inr, List, [], ◌∷◌, length, Option, None, Some, set, ap, sym, ◌∙◌, arith, get_or, get_or-set_other}
+use Rattle.std.proofs.Common.{[], ◌≡◌, ℕ, ◌<◌, inl, inr, List, ◌∷◌, length, Option, None, Some, set, ap, sym, ◌∙◌, arith, get_or, get_or-set_other}
 use Rattle.std.proofs.lemmas.Bool.{cases_eq}
 use Rattle.std.proofs.lemmas.Grind.{get_or-set_at}
 use Rattle.std.proofs.lemmas.List.{get_or-replicate, length-replicate, length-set}

@@ -1,5 +1,5 @@
 -- The greatest number of which all ticks of an instance are multiples.
-use Rattle.std.proofs.Common.{◌≡◌, ℕ, zero, suc, ◌+◌, ◌*◌, ◌/◌, ◌%◌, ◌<◌, ◌≤◌, inl, inr, true, ◌&&◌, eqb, List, [], ◌∷◌, length, get_or, filter, refl, subst, arith}
+use Rattle.std.proofs.Common.{[], ◌≡◌, ℕ, zero, suc, ◌+◌, ◌*◌, ◌/◌, ◌%◌, ◌<◌, ◌≤◌, inl, inr, true, ◌&&◌, eqb, List, ◌∷◌, length, get_or, filter, refl, subst, arith}
 use Prim.Native.Nat.{◌∣◌}
 use Rattle.std.proofs.Math.Nat.{le-div_iff_mul-le, mod-one, mul-div_cancel', mul-le-mul_left, mul_comm, pos_of_dvd_of_pos}
 use Rattle.std.proofs.lemmas.Bool.{and_from, and_parts, cases_lt, eq-eqb, eqb-true}

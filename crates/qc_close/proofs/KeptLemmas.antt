@@ -10,7 +10,7 @@ use Rattle.qc_model.specs.declared.turn.Turn.{Turn}
 use Rattle.qc_model.specs.Assignments.{AreInRange, crane_in, no_cranes}
 use Rattle.qc_model.specs.Barred.{barred_frame}
 use Rattle.qc_model.specs.Bays.{at_least_zero}
-use Rattle.qc_model.specs.Closed.{IsClosedBound, grain, is_closed, is_short_along, is_short_before, last_before, left_bays, work_at}
+use Rattle.qc_model.specs.Closed.{grain, is_closed, is_short_along, is_short_before, last_before, left_bays, work_at}
 use Rattle.qc_model.specs.Instance.{InstanceView, Valid, bay_of, task, ticks_of}
 use Rattle.qc_model.specs.Nodes.{free}
 use Rattle.qc_model.specs.Ways.{way_frame}
@@ -25,7 +25,6 @@ use Rattle.qc_close.specs.Lasts.{IsLast}
 use Rattle.qc_close.specs.Lefts.{IsLeft}
 use Rattle.qc_close.specs.Spots.{AreSoonest, AreSpots}
 use Rattle.qc_close.specs.Trips.{AreTrips}
-use Rattle.qc_close.proofs.ClosedLemmas.{closed_end_le}
 use Rattle.qc_close.proofs.CrewLemmas.{at, bay_index, cranes_else, cranes_there, last_test, left_put, left_take, none_there, put_room, work_within}
 use Rattle.qc_close.proofs.GrainLemmas.{grain_is}
 use Rattle.qc_close.proofs.ShortLemmas.{last_rises, short_sooner}
@@ -253,9 +252,3 @@ module _ (f : Inside) (k : IsKept f) where
         subst (λ (w : CrewView). (is_short_before w.inst w.turn w.cranes end || is_short_along w.inst w.turn w.cranes end)
         ≡ is_closed w.inst w.turn w.cranes end) is
         (sym (ap (λ b. b || own end) (sym (tests end some within) ∙ lt-leb end f.bare late)))
-
-    -- an end at which the assignment is closed is a bound
-    pub closed_bound : (end : ℕ) (b : Bool) → b ≡ is_closed v.inst v.turn v.cranes end → b ≡ true
-        → IsClosedBound v.inst v.turn v.cranes end
-    closed_bound end b e t =
-        closed_end_le v.inst v.turn v.cranes end (subst (λ (w : CrewView). Valid w.inst) is k.valid) (sym e ∙ t)

@@ -1,30 +1,18 @@
-mod Members
-mod Rows
-pub mod PackLemmas
+pub mod Members
+pub mod OrderLemmas
+pub mod Extremes
 mod BandLemmas
 pub mod SpanLemmas
-mod LoopLemmas
-mod FrameLemmas
-mod BarredLemmas
-mod Paths
-mod Trips
-mod Tracks
-mod WayLemmas
-mod CountLemmas
-mod GrainLemmas
-pub mod ClosedLemmas
-pub mod NodeLemmas
+pub mod LoopLemmas
+pub mod CountLemmas
+pub mod GrainLemmas
 pub mod DecidedCranes
 pub mod PackBounds
 mod SumLemmas
 mod WalkLemmas
 mod ShortLemmas
-mod RestLemmas
-mod SameLemmas
-mod LeftLemmas
-mod ComeLemmas
 mod OwnLemmas
-mod CrewLemmas
+pub mod CrewLemmas
 mod SpotLemmas
 mod SpotLists
 mod BarLemmas
@@ -33,5 +21,5 @@ mod TripLemmas
 mod StretchLemmas
 mod PlaceLemmas
 pub mod KeptLemmas
-mod LongestLemmas
+pub mod LongestLemmas
 pub mod LimitLemmas

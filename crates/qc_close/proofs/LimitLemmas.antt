@@ -1,22 +1,21 @@
 -- No assignment is closed at a late end: by then one crane alone has the time for all that is left.
-use Rattle.std.proofs.Common.{◌≡◌, ℕ, suc, ◌+◌, ◌-◌, ◌*◌, ◌/◌, ◌%◌, ◌<◌, ◌≤◌, inl, inr, Bool, true, false, not, ◌&&◌, ◌||◌, eqb, leb, nat_lt, cond, ℤ, List, [], ◌∷◌, length, get_or, filter, map, reverse, Option, is_none, is_some, sum, sum_by, refl, ap, sym, subst, ◌∙◌, arith}
-use mathlib.Core.List.{reverse-cons}
+use Rattle.std.proofs.Common.{[], ◌≡◌, ℕ, suc, ◌+◌, ◌-◌, ◌*◌, ◌/◌, ◌%◌, ◌<◌, ◌≤◌, inl, inr, Bool, true, false, ◌&&◌, ◌||◌, eqb, nat_lt, cond, ℤ, List, ◌∷◌, length, get_or, filter, map, reverse, Option, is_none, is_some, sum, sum_by, refl, ap, sym, subst, ◌∙◌, arith}
 use Rattle.std.proofs.Math.Nat.{mul-add, mul-le-mul_left, mul-zero, mul_comm}
-use Rattle.std.proofs.lemmas.Bool.{and_from, and_parts, cases_Bool, cases_lt, cond_both, eqb-true, false_from_ne_true, le-leb, leb-true, ltb-true, or_from, true≢false}
+use Rattle.std.proofs.lemmas.Bool.{and_parts, cases_Bool, cases_lt, cond_both, eqb-true, false_from_ne_true, or_from, true≢false}
 use Rattle.std.proofs.lemmas.Int.{ints}
 use Rattle.std.proofs.lemmas.List.{length-reverse}
 use Rattle.std.proofs.lemmas.List.FromFn.{get_or-map-range_with_len, length-map-range_with_len, length-range_with_len}
-use Rattle.std.proofs.lemmas.List.Sums.{sum_by-append, sum_by-cons}
+use Rattle.std.proofs.lemmas.List.Sums.{sum_by-cons}
 use Rattle.std.proofs.lemmas.Nat.Gcd.{le_of_dvd}
 use Rattle.std.specs.Option.{option_map_or}
-use Rattle.std.specs.List.{list_all, list_any, range_with_len}
+use Rattle.std.specs.List.{list_all, range_with_len}
 use Rattle.qc_model.specs.declared.direction.Direction.{Direction}
 use Rattle.qc_model.specs.declared.direction.Direction.TheVariants.{Up, Down}
 use Rattle.qc_model.specs.declared.frame.Frame.{Frame}
 use Rattle.qc_model.specs.declared.turn.Turn.{Turn}
 use Rattle.qc_model.specs.declared.turn.Turn.TheVariants.{OneWay, Free}
 use Rattle.qc_model.specs.Assignments.{AreInRange, crane_in, no_cranes}
-use Rattle.qc_model.specs.Closed.{Try, along, bays_to, fewest, first, grain, has_room, is_closed, is_served, is_short, is_short_along, is_short_before, last_before, left_at, left_bays, legs, lists_to, load, most, numbers, room, suffices, work_at}
+use Rattle.qc_model.specs.Closed.{Try, bays_to, fewest, grain, is_closed, is_short, is_short_along, is_short_before, last_before, left_at, left_bays, legs, load, most, room, work_at}
 use Rattle.qc_model.specs.Barred.{all_done, barred_frame, barring, both_done, done_in, is_barred, lies, own_or_left}
 use Rattle.qc_model.specs.Frames.{frame, frame_of, own, turn_bays, turn_high}
 use Rattle.qc_model.specs.Instance.{InstanceView, IsOnRail, Valid, bay_of, crane, ticks_of}
@@ -32,13 +31,13 @@ use Rattle.qc_close.specs.Trips.{IsShortWay}
 use Rattle.qc_close.proofs.LongestLemmas.{longest_short}
 use Rattle.qc_close.proofs.TripLemmas.{rail_wide}
 use Rattle.qc_close.specs.Lasts.{IsLatest}
-use Rattle.qc_close.proofs.ClosedLemmas.{InOrder, among_lists, beyond_after, beyond_at, falling, from_reverse, rising, to_rises}
+use Rattle.qc_close.proofs.OrderLemmas.{After, beyond, not_before, not_short, InOrder, beyond_after, beyond_at, falling, from_reverse, rising, to_rises}
 use Rattle.qc_close.proofs.CountLemmas.{most_cons, sum_filter, sum_le, sums_within}
 use Rattle.qc_close.proofs.CrewLemmas.{at, sum_few, term, work_is}
 use Rattle.qc_close.proofs.GrainLemmas.{grain_is}
 use Rattle.qc_close.proofs.KeptLemmas.{closed_falls}
-use Rattle.qc_close.proofs.BarredLemmas.{among_done, greatest_among}
-use Rattle.qc_close.proofs.Members.{Among, among_filter, any_at, any_from, filter_among, map_among, range_among}
+use Rattle.qc_close.proofs.Extremes.{among_done, greatest_among}
+use Rattle.qc_close.proofs.Members.{Among, filter_among, map_among, range_among}
 use Rattle.qc_close.proofs.OwnLemmas.{rail_high, rail_max, rail_min}
 use Rattle.qc_close.proofs.SumLemmas.{most_all}
 
@@ -47,14 +46,16 @@ use Rattle.qc_close.proofs.SumLemmas.{most_all}
 abbrev ones : List ℕ → List ℕ
 ones xs = map (λ _. 1) xs
 
--- with frames of which the first has spent so much, and whose bays to come are so many at the most
+-- with frames of which the first has spent so much, bays to come that lie so far at the most, and so much work
 module _ (travel : ℕ) (f : Frame) (fs : List Frame) (bays_left : List ℕ) (work : ℕ → ℕ) (tick gone all far : ℕ)
-    (spent : f.gone ≤ gone) (late : gone + all + travel * (far + far) ≤ tick) where
+    (spent : f.gone ≤ gone) (late : gone + all + travel * (far + far) ≤ tick) (rises : InOrder Up bays_left)
+    (reach : (way : Direction) (x : ℕ) → Among bays_left x → bays_to way f x ≤ far)
+    (total : (way : Direction) (xs : List ℕ) → InOrder way xs → sum_by work xs ≤ all) where
   abbrev t : Try
   t = record { travel = travel; frames = f ∷ fs; bays = bays_left; work = work; tick = tick }
 
-  abbrev AreFar : Direction → List ℕ → Type 0
-  AreFar way xs = (x : ℕ) → Among xs x → bays_to way f x ≤ far
+  abbrev Within : List ℕ → Type 0
+  Within xs = (x : ℕ) → Among xs x → Among bays_left x
 
   -- the first crane goes no fewer bays than the one that goes the fewest
   one_of : (g : Frame → ℕ) → fewest 1 (map g (f ∷ fs)) ≤ g f
@@ -72,168 +73,121 @@ module _ (travel : ℕ) (f : Frame) (fs : List Frame) (bays_left : List ℕ) (wo
   sum_one : (g : Frame → ℕ) → g f ≤ sum (map g (f ∷ fs))
   sum_one g = omega (arith, sum_by-cons (λ (k : ℕ). k) (g f) (map g fs))
 
-  legs_le : (way : Direction) (x : ℕ) (ys : List ℕ) → InOrder way (x ∷ ys) → AreFar way (x ∷ ys)
+  legs_le : (way : Direction) (x : ℕ) (ys : List ℕ) → InOrder way (x ∷ ys) → Within (x ∷ ys)
       → legs t way (x ∷ ys) (ones (x ∷ ys)) + bays_to way f x ≤ far
-  legs_le way x [] r h = omega (arith, h x (inl refl))
+  legs_le way x [] r h = omega (arith, reach way x (h x (inl refl)))
   legs_le way x (y ∷ ys) r h =
       let rest = legs_le way y ys r.1 (λ z a. h z (inr a)) in
       let rises = to_rises way f x y (beyond_after way x y y (r.0 y (inl refl)) (beyond_at way y y refl)) in
       omega (arith, rest, rises, one_of (λ g. bays_to way g y - bays_to way g x))
 
   -- what one crane has left at a bay is enough for it and for what lies behind it
-  enough : (way : Direction) (x : ℕ) (ys : List ℕ) → InOrder way (x ∷ ys) → AreFar way (x ∷ ys)
-      → sum_by work (x ∷ ys) ≤ all
+  enough : (way : Direction) (x : ℕ) (ys : List ℕ) → InOrder way (x ∷ ys) → Within (x ∷ ys)
       → load t way (x ∷ ys) (ones (x ∷ ys)) ≤ most 1 (map (λ g. room t (bays_to way g x) g) (f ∷ fs))
-  enough way x ys r h total =
+  enough way x ys r h =
       let go = legs t way (x ∷ ys) (ones (x ∷ ys)) in
       let come = bays_to way f x in
       omega (
         arith,
-        total,
+        total way (x ∷ ys) r,
         most_one (λ g. room t (bays_to way g x) g),
         mul-add travel go come,
         mul-add travel far far,
         mul-le-mul_left travel (legs_le way x ys r h),
       )
 
-  all_suffice : (way : Direction) (xs : List ℕ) → InOrder way xs → AreFar way xs → sum_by work xs ≤ all
-      → suffices t way xs (ones xs) ≡ true
-  all_suffice way [] r h total = refl
-  all_suffice way (x ∷ ys) r h total =
-      and_from (leb (load t way (x ∷ ys) (ones (x ∷ ys))) (most 1 (map (λ g. room t (bays_to way g x) g) (f ∷ fs))))
-      (suffices t way ys (ones ys))
-      (le-leb (load t way (x ∷ ys) (ones (x ∷ ys))) (most 1 (map (λ g. room t (bays_to way g x) g) (f ∷ fs))) (enough way x ys r h total))
-      (all_suffice way ys r.1 (λ z a. h z (inr a)) (omega (arith, total, sum_by-cons work x ys)))
-
   abbrev Fits : List ℕ → List ℕ → Type 0
   Fits bs cs =
       sum_by work bs + travel * (legs t Up bs (ones bs) + legs t Down cs (ones cs))
       ≤ sum (map (λ g. room t (bays_to Up g (get_or bs 0 0) + bays_to Down g (get_or cs 0 0)) g) (f ∷ fs))
 
-  fit : (bs cs : List ℕ) → length cs ≡ length bs → InOrder Up bs → InOrder Down cs → AreFar Up bs → AreFar Down cs
-      → sum_by work bs ≤ all → Fits bs cs
-  fit [] [] same r s up down total = omega (arith, mul-zero travel)
-  fit [] (z ∷ zs) same r s up down total = absurd (omega arith)
-  fit (x ∷ ys) [] same r s up down total = absurd (omega arith)
-  fit (x ∷ ys) (z ∷ zs) same r s up down total =
+  fit : (bs cs : List ℕ) → length cs ≡ length bs → InOrder Up bs → InOrder Down cs → Within bs → Within cs → Fits bs cs
+  fit [] [] same r s up down = omega (arith, mul-zero travel)
+  fit [] (z ∷ zs) same r s up down = absurd (omega arith)
+  fit (x ∷ ys) [] same r s up down = absurd (omega arith)
+  fit (x ∷ ys) (z ∷ zs) same r s up down =
       let one = legs t Up (x ∷ ys) (ones (x ∷ ys)) in
       let other = legs t Down (z ∷ zs) (ones (z ∷ zs)) in
       let come = bays_to Up f x + bays_to Down f z in
       let goes : one + other + come ≤ far + far = omega (arith, legs_le Up x ys r up, legs_le Down z zs s down) in
       omega (
         arith,
-        total,
+        total Up (x ∷ ys) r,
         sum_one (λ g. room t (bays_to Up g x + bays_to Down g z) g),
         mul-add travel (one + other) come,
         mul-le-mul_left travel goes,
       )
 
-  module _ (rises : InOrder Up bays_left) (falls : InOrder Down (reverse bays_left)) (up : AreFar Up bays_left)
-      (down : AreFar Down (reverse bays_left)) (total : sum_by work bays_left ≤ all)
-      (total_back : sum_by work (reverse bays_left) ≤ all) where
-    ordered : (way : Direction) → InOrder way (along t way)
-    ordered Up = rises
-    ordered Down = falls
-
-    as_many : (way : Direction) → length (along t way) ≡ length bays_left
-    as_many Up = refl
-    as_many Down = length-reverse bays_left
-
-    suffice : (way : Direction) → suffices t way (along t way) (ones (along t way)) ≡ true
-    suffice Up = all_suffice Up bays_left rises up total
-    suffice Down = all_suffice Down (reverse bays_left) falls down total_back
-
-    serving : (way : Direction) → Among (numbers t way) (ones (along t way))
-    serving way =
-        among_filter (suffices t way (along t way)) (lists_to (length (f ∷ fs)) (length bays_left)) (ones (along t way))
-        (subst (λ (n : ℕ). Among (lists_to (length (f ∷ fs)) n) (ones (along t way))) (as_many way)
-        (among_lists (length (f ∷ fs)) (λ _. 1) (along t way) (λ x. omega arith)))
-        (suffice way)
-
-    serve : is_served t ≡ true
-    serve =
-        let ns = ones bays_left in
-        let ms = ones (reverse bays_left) in
-        any_from (λ ns. list_any (has_room t ns) (numbers t Down)) (numbers t Up) ns (serving Up)
-        (any_from (has_room t ns) (numbers t Down) ms (serving Down)
-        (le-leb
-        (sum_by work bays_left + travel * (legs t Up bays_left ns + legs t Down (reverse bays_left) ms))
-        (sum (map (λ g. room t (bays_to Up g (first t Up) + bays_to Down g (first t Down)) g) (f ∷ fs)))
-        (fit bays_left (reverse bays_left) (length-reverse bays_left) rises falls up down total)))
-
-    -- so not too little time is left, where each crane is done with what it has
-    pub not_short : ((g : Frame) → Among (f ∷ fs) g → g.gone ≤ tick) → is_short t ≡ false
-    not_short done =
-        or_from (list_any (λ g. g.works && nat_lt tick g.gone) (f ∷ fs)) (not (is_served t)) none (ap not serve)
-      where
-        none : list_any (λ g. g.works && nat_lt tick g.gone) (f ∷ fs) ≡ false
-        none = false_from_ne_true (list_any (λ g. g.works && nat_lt tick g.gone) (f ∷ fs)) (λ some.
-            let g = any_at (λ g. g.works && nat_lt tick g.gone) (f ∷ fs) some in
-            absurd (omega (arith, done g.0 g.1, ltb-true tick g.0.gone (and_parts g.0.works (nat_lt tick g.0.gone) g.2).1)))
+  -- one crane to each bay serves, where each crane is done with what it has
+  pub not_late : ((g : Frame) → Among (f ∷ fs) g → g.gone ≤ tick) → is_short t ≡ false
+  not_late done =
+      not_short t (λ _ _. 1) (λ way x. omega arith) rises enough
+      (fit bays_left (reverse bays_left) (length-reverse bays_left) rises (falling bays_left rises) (λ y a. a) (from_reverse bays_left))
+      (λ g a _. done g a)
 
 -- ---- the work at all bays together
 
 module _ (inst : InstanceView) (cranes : List (Option ℕ)) where
-  -- the tasks at this bay and at those above it
-  abbrev above : ℕ → ℕ
-  above x = sum_by (λ j. cond (leb x (at inst j)) (ticks_of inst j) 0) (task_numbers inst)
+  -- the tasks at this bay and at those behind it
+  abbrev over : Direction → ℕ → ℕ
+  over way x = sum_by (λ j. cond (beyond way x (at inst j)) (ticks_of inst j) 0) (task_numbers inst)
 
-  above_next : (x y : ℕ) → x < y → work_at inst cranes x + above y ≤ above x
-  above_next x y less =
+  here : (way : Direction) (x : ℕ) (b : Bool) (a n : ℕ) → cond (b && eqb a x) n 0 ≤ cond (beyond way x a) n 0
+  here way x b a n = elim (cases_Bool (b && eqb a x)) [
+    | inl s ↦
+        let is = beyond_at way x a (eqb-true a x (and_parts b (eqb a x) s).1) in
+        omega (arith, ap (λ c. cond c n 0) s, ap (λ c. cond c n 0) is)
+    | inr s ↦ omega (arith, ap (λ c. cond c n 0) s)
+  ]
+
+  here_over : (way : Direction) (x : ℕ) → work_at inst cranes x ≤ over way x
+  here_over way x =
+      let all = sum_le (term inst cranes x) (λ j. cond (beyond way x (at inst j)) (ticks_of inst j) 0) (task_numbers inst)
+      (λ j _. here way x (is_none (crane_in cranes j)) (at inst j) (ticks_of inst j)) in
+      omega (arith, work_is inst cranes x, all)
+
+  over_next : (way : Direction) (x y : ℕ) → After way x y → work_at inst cranes x + over way y ≤ over way x
+  over_next way x y after =
       let parts =
-      sums_within (term inst cranes x) (λ j. cond (leb y (at inst j)) (ticks_of inst j) 0)
-      (λ j. cond (leb x (at inst j)) (ticks_of inst j) 0) (task_numbers inst)
+      sums_within (term inst cranes x) (λ j. cond (beyond way y (at inst j)) (ticks_of inst j) 0)
+      (λ j. cond (beyond way x (at inst j)) (ticks_of inst j) 0) (task_numbers inst)
       (λ j _. one (is_none (crane_in cranes j)) (at inst j) (ticks_of inst j)) in
       omega (arith, work_is inst cranes x, parts)
     where
-      one : (b : Bool) (a n : ℕ) → cond (b && eqb a x) n 0 + cond (leb y a) n 0 ≤ cond (leb x a) n 0
-      one b a n = elim (cases_Bool (leb y a)) [
+      one : (b : Bool) (a n : ℕ) → cond (b && eqb a x) n 0 + cond (beyond way y a) n 0 ≤ cond (beyond way x a) n 0
+      one b a n = elim (cases_Bool (beyond way y a)) [
         | inl t ↦
-            let high = leb-true y a t in
-            let here : b && eqb a x ≡ false = false_from_ne_true (b && eqb a x) (λ s.
-            absurd (omega (arith, high, eqb-true a x (and_parts b (eqb a x) s).1))) in
+            let none : b && eqb a x ≡ false = false_from_ne_true (b && eqb a x) (λ s.
+            not_before way x y a after (eqb-true a x (and_parts b (eqb a x) s).1) t) in
             omega (
               arith,
-              ap (λ c. cond c n 0) here,
+              ap (λ c. cond c n 0) none,
               ap (λ c. cond c n 0) t,
-              ap (λ c. cond c n 0) (le-leb x a (omega (arith, high))),
+              ap (λ c. cond c n 0) (beyond_after way x y a after t),
             )
-        | inr t ↦ omega (arith, ap (λ c. cond c n 0) t, under)
+        | inr t ↦ omega (arith, ap (λ c. cond c n 0) t, here way x b a n)
       ]
-        where
-          under : cond (b && eqb a x) n 0 ≤ cond (leb x a) n 0
-          under = elim (cases_Bool (b && eqb a x)) [
-            | inl s ↦
-                let is = eqb-true a x (and_parts b (eqb a x) s).1 in
-                omega (arith, ap (λ c. cond c n 0) s, ap (λ c. cond c n 0) (le-leb x a (omega (arith, is))))
-            | inr s ↦ omega (arith, ap (λ c. cond c n 0) s)
-          ]
 
-  work_above : (x : ℕ) (ys : List ℕ) → InOrder Up (x ∷ ys) → sum_by (work_at inst cranes) (x ∷ ys) ≤ above x
-  work_above x [] r = omega (arith, sum_by-cons (work_at inst cranes) x [], above_next x (x + 1) (omega arith))
-  work_above x (y ∷ ys) r =
-      omega (arith, sum_by-cons (work_at inst cranes) x (y ∷ ys), work_above y ys r.1, above_next x y (r.0 y (inl refl)))
+  work_over : (way : Direction) (x : ℕ) (ys : List ℕ) → InOrder way (x ∷ ys)
+      → sum_by (work_at inst cranes) (x ∷ ys) ≤ over way x
+  work_over way x [] r = omega (arith, sum_by-cons (work_at inst cranes) x [], here_over way x)
+  work_over way x (y ∷ ys) r =
+      omega (arith, sum_by-cons (work_at inst cranes) x (y ∷ ys), work_over way y ys r.1, over_next way x y (r.0 y (inl refl)))
 
   module _ (valid : Valid inst) where
-    above_le : (x : ℕ) → above x ≤ 120576000000
-    above_le x =
-        let few = sum_few (λ j. cond (leb x (at inst j)) (ticks_of inst j) 0) 502400000 0 (length inst.tasks)
-        (λ j low. one (leb x (at inst j)) (ticks_of inst j) (ticks_bounded inst valid j (omega arith))) in
+    over_le : (way : Direction) (x : ℕ) → over way x ≤ 120576000000
+    over_le way x =
+        let few = sum_few (λ j. cond (beyond way x (at inst j)) (ticks_of inst j) 0) 502400000 0 (length inst.tasks)
+        (λ j low. one (beyond way x (at inst j)) (ticks_of inst j) (ticks_bounded inst valid j (omega arith))) in
         omega (arith, few, valid.tasks.count)
       where
         one : (b : Bool) (n : ℕ) → n ≤ 502400000 → cond b n 0 ≤ 502400000
         one true n le = le
         one false n le = omega arith
 
-    work_le : (xs : List ℕ) → InOrder Up xs → sum_by (work_at inst cranes) xs ≤ 120576000000
-    work_le [] r = omega arith
-    work_le (x ∷ ys) r = omega (arith, work_above x ys r, above_le x)
-
-sum_back : (f : ℕ → ℕ) (xs : List ℕ) → sum_by f (reverse xs) ≡ sum_by f xs
-sum_back f [] = refl
-sum_back f (x ∷ xs) =
-    ap (sum_by f) (reverse-cons x xs) ∙ sum_by-append f (reverse xs) (x ∷ [])
-    ∙ omega (arith, sum_back f xs, sum_by-cons f x xs, sum_by-cons f x [])
+    work_le : (way : Direction) (xs : List ℕ) → InOrder way xs → sum_by (work_at inst cranes) xs ≤ 120576000000
+    work_le way [] r = omega arith
+    work_le way (x ∷ ys) r = omega (arith, work_over way x ys r, over_le way x)
 
 -- ---- what a crane has spent
 
@@ -411,12 +365,9 @@ module _ (inst : InstanceView) (valid : Valid inst) where
     served_late of each tick late [] some range = absurd (omega arith)
     served_late of each tick late (w ∷ ws) some range =
         let m = each w (range w (inl refl)) in
-        let total = work_le inst cranes valid xs rises in
-        not_short inst.travel (of w) (map of ws) xs (work_at inst cranes) tick 650000000000 120576000000 40000
+        not_late inst.travel (of w) (map of ws) xs (work_at inst cranes) tick 650000000000 120576000000 40000
         m.gone (omega (arith, late, travel_few (40000 + 40000) 80000 (omega arith)))
-        rises (falling xs rises) (λ x a. far_few Up (of w) x m.near (on_ship x a).1)
-        (λ x a. far_few Down (of w) x m.near (on_ship x (from_reverse xs x a)).1)
-        total (omega (arith, total, sum_back (work_at inst cranes) xs))
+        rises (λ way x a. far_few way (of w) x m.near (on_ship x a).1) (work_le inst cranes valid)
         (λ g a.
         let v = map_among of (w ∷ ws) g a in
         omega (arith, late, (each v.0 (range v.0 v.1)).gone, ap (λ (h : Frame). h.gone) v.2))

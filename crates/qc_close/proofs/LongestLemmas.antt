@@ -1,5 +1,5 @@
 -- The longest way of a crane, found from the spots of its trips; and that ways are short.
-use Rattle.std.proofs.Common.{◌≡◌, ℕ, zero, suc, ◌+◌, ◌-◌, ◌*◌, ◌<◌, ◌≤◌, min, inl, inr, Bool, true, false, eqb, nat_lt, cond, List, [], ◌∷◌, length, get_or, map, Option, max, ◌||◌, ℤ, pos, ◌≤ℤ◌, refl, ap, sym, subst, ◌∙◌, arith, add-one}
+use Rattle.std.proofs.Common.{[], ◌≡◌, ℕ, zero, suc, ◌+◌, ◌-◌, ◌*◌, ◌<◌, ◌≤◌, min, inl, inr, Bool, true, false, eqb, nat_lt, cond, List, ◌∷◌, length, get_or, map, Option, max, ◌||◌, ℤ, pos, ◌≤ℤ◌, refl, ap, sym, subst, ◌∙◌, arith, add-one, ◌⊎◌}
 use Rattle.std.proofs.lemmas.Bool.{cases_lt, cond-false, cond_both, le-ltb, ltb-true, ne_eqb}
 use Rattle.std.proofs.lemmas.Int.{by_lt_z, int_max_is, int_min_is, ints}
 use Rattle.std.specs.Int.{int_max, int_min}
@@ -25,10 +25,29 @@ use Rattle.qc_close.specs.Trips.{AreTrips, IsShortWay, IsWide, IsWideTrip, no_tr
 use Rattle.qc_close.specs.declared.spots.Spots.{Spots}
 use Rattle.qc_close.specs.declared.trip.Trips.{Trips}
 use Rattle.qc_close.proofs.BarLemmas.{none_pass}
-use Rattle.qc_close.proofs.BarredLemmas.{highest_at, lowest_at}
-use Rattle.qc_close.proofs.Members.{map_among, range_among}
+use Rattle.qc_close.proofs.Extremes.{highest_at, lowest_at}
+use Rattle.qc_close.proofs.Members.{map_among, range_among, Among}
 use Rattle.qc_close.proofs.TripLemmas.{all_stays, max_wide, min_wide, tasks_there, trip_wide}
-use Rattle.qc_close.proofs.WayLemmas.{longest_is}
+
+-- ---- the longest way
+
+-- it is the first of them, or a longer one
+pub longest_is : (first : Way) (others : List Way)
+    → (longest first others ≡ first) ⊎ (Among others (longest first others) × (first.bays < (longest first others).bays))
+longest_is first [] = inl refl
+longest_is first (other ∷ others) =
+    cond_both (nat_lt first.bays other.bays) (longest other others) (longest first others)
+    (λ way. (way ≡ first) ⊎ (Among (other ∷ others) way × (first.bays < way.bays)))
+    (λ t.
+    let less = ltb-true first.bays other.bays t in
+    elim (longest_is other others) [
+      | inl e ↦ inr (inl (sym e), omega (arith, less, ap (λ (way : Way). way.bays) e))
+      | inr h ↦ inr (inr h.0, omega (arith, less, h.1))
+    ])
+    (λ _. elim (longest_is first others) [
+      | inl e ↦ inl e
+      | inr h ↦ inr (inr h.0, h.1)
+    ])
 
 -- ---- ways that aren't longer
 

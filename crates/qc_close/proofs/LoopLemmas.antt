@@ -1,5 +1,5 @@
 -- Steps of the loops over tasks.
-use Rattle.std.proofs.Common.{◌≡◌, ◌≤ℤ◌, Option, is_some, nat_lt, to_z, of_z, w32, inl, inr, ℕ, ◌+◌, ◌*◌, ◌<◌, ◌≤◌, Bool, true, false, ◌||◌, ◌&&◌, eqb, not, List, [], ◌∷◌, length, drop, get_or, refl, ap, sym, ◌∙◌, arith, add-one, drop-cons, ℤ, pos, ◌-ℤ◌}
+use Rattle.std.proofs.Common.{[], ◌≡◌, ◌≤ℤ◌, Option, is_some, nat_lt, to_z, of_z, w32, inl, inr, ℕ, ◌+◌, ◌*◌, ◌<◌, ◌≤◌, Bool, true, false, ◌||◌, ◌&&◌, eqb, not, List, ◌∷◌, length, drop, get_or, refl, ap, sym, ◌∙◌, arith, add-one, drop-cons, ℤ, pos, ◌-ℤ◌}
 use Rattle.std.specs.List.{list_all, list_any}
 use Rattle.std.proofs.lemmas.Bool.{and_from, and_left, eqb-false, eqb-true, eq-eqb, lt-ltb, ne_eqb, not_from_false, not_from_true, or_cases, or_parts}
 use Rattle.std.proofs.lemmas.Int.{ints}

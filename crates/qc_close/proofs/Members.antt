@@ -1,5 +1,5 @@
 -- What a list holds, by recursion on it.
-use Rattle.std.proofs.Common.{◌≡◌, ℕ, zero, suc, ◌+◌, ◌<◌, ◌≤◌, ◌⊎◌, inl, inr, Bool, true, List, [], ◌∷◌, ◌++◌, Contains, map, refl, ap, sym, subst, ◌∙◌, arith, filter}
+use Rattle.std.proofs.Common.{[], ◌≡◌, ℕ, zero, suc, ◌+◌, ◌<◌, ◌≤◌, ◌⊎◌, inl, inr, Bool, true, List, ◌∷◌, ◌++◌, Contains, map, refl, ap, sym, subst, ◌∙◌, arith, filter}
 use Rattle.std.proofs.lemmas.Bool.{and_parts, and_from, cases_lt, cond_both, false≢true, or_cases, or_left, or_right}
 use Rattle.std.specs.List.{flat_map, list_all, list_any, range_with_len}
 use Rattle.qc_model.specs.Nodes.{least}

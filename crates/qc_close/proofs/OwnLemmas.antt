@@ -1,7 +1,7 @@
 -- What each crane has spent.
-use Rattle.std.proofs.Common.{◌≡◌, ℕ, ◌+◌, ◌*◌, ◌<◌, ◌≤◌, inl, inr, Bool, false, eqb, cond, List, [], ◌∷◌, length, get_or, set, map, take, filter, Option, None, Some, IfSome, ℤ, of_z, to_z, w32, refl, ap, sym, subst, ◌∙◌, arith, add-one}
+use Rattle.std.proofs.Common.{[], ◌≡◌, ℕ, ◌+◌, ◌-◌, ◌*◌, ◌<◌, ◌≤◌, inl, inr, Bool, true, false, eqb, cond, List, ◌∷◌, length, get_or, set, map, take, filter, Option, None, Some, IfSome, ℤ, of_z, to_z, w32, refl, ap, sym, subst, ◌∙◌, arith, add-one}
 use Rattle.std.proofs.Math.Nat.{mul-le-mul_left}
-use Rattle.std.proofs.lemmas.Bool.{cases_lt}
+use Rattle.std.proofs.lemmas.Bool.{cases_lt, cond-false, cond-true}
 use Rattle.std.proofs.lemmas.Int.{int_max_is, int_min_is, ints}
 use Rattle.std.proofs.lemmas.List.{ext_get_or, get_or-set_other, get_or-set_same, get_or-take, length-take}
 use Rattle.std.proofs.lemmas.List.FromFn.{get_or-map-range_with_len, length-map-range_with_len}
@@ -41,13 +41,6 @@ frame_same inst turn w (j ∷ js) = refl
 abbrev pub has : List (Option ℕ) → ℕ → ℕ → Bool
 has cranes w j = option_map_or (λ k. eqb k w) (crane_in cranes j) false
 
-module _ (inst : InstanceView) (p : ℕ → Bool) (from task_now done : ℕ) (is : task_now + 1 ≡ from) where
-  pub one_more : filter p (range_with_len task_now (done + 1))
-      ≡ cond (p task_now) (task_now ∷ filter p (range_with_len from done)) (filter p (range_with_len from done))
-  one_more =
-      ap (λ k. filter p (range_with_len task_now k)) (add-one done)
-      ∙ ap (λ a. cond (p task_now) (task_now ∷ filter p (range_with_len a done)) (filter p (range_with_len a done))) is
-
 -- ---- few tasks
 
 pub some_small : (n m : ℕ) (o : Option Own) → n ≤ m → IfSome o (IsSmall n) → IfSome o (IsSmall m)
@@ -73,6 +66,43 @@ small_more n (Some o) t s few rail = record {
     omega (arith, ints, int_max_is t.bay o.high, rail.1, s.high.1),
   );
 }
+
+-- ---- those that pass a test, from the last task to the first
+
+-- how far that has come
+pub record OwnTo (inst : InstanceView) (p : ℕ → Bool) (count done : ℕ) (o : Option Own) : Type 0 where
+  pub is : o ≡ own_of inst (filter p (range_with_len (count - done) done))
+  pub small : IfSome o (IsSmall done)
+
+module _ (inst : InstanceView) (p : ℕ → Bool) (count done : ℕ) (low : done < count) where
+  abbrev last : ℕ
+  last = count - 1 - done
+
+  abbrev behind : List ℕ
+  behind = filter p (range_with_len (count - done) done)
+
+  pub with_next : filter p (range_with_len (count - (done + 1)) (done + 1)) ≡ cond (p last) (last ∷ behind) behind
+  with_next =
+      let at : count - (done + 1) ≡ last = omega arith in
+      let next : last + 1 ≡ count - done = omega arith in
+      ap (λ a. filter p (range_with_len a (done + 1))) at
+      ∙ ap (λ k. filter p (range_with_len last k)) (add-one done)
+      ∙ ap (λ a. cond (p last) (last ∷ filter p (range_with_len a done)) (filter p (range_with_len a done))) next
+
+  pub own_next : (o new : Option Own) (t : Task) → OwnTo inst p count done o → p last ≡ true → t ≡ task inst last
+      → t.ticks ≤ MOST_WORK → IsOnRail t.bay → new ≡ Some (with_task o t) → OwnTo inst p count (done + 1) new
+  own_next o new t to passes t_is few rail new_is = record {
+    is = new_is ∙ ap (λ u. Some (with_task o u)) t_is ∙ ap (λ q. Some (with_task q (task inst last))) to.is
+        ∙ sym (own_cons inst last behind) ∙ ap (own_of inst) (sym (with_next ∙ cond-true (p last) (last ∷ behind) behind passes));
+    small = subst (λ (q : Option Own). IfSome q (IsSmall (done + 1))) (sym new_is) (small_more done o t to.small few rail);
+  }
+
+  pub own_skip : (o new : Option Own) → OwnTo inst p count done o → p last ≡ false → new ≡ o
+      → OwnTo inst p count (done + 1) new
+  own_skip o new to fails new_is = record {
+    is = new_is ∙ to.is ∙ ap (own_of inst) (sym (with_next ∙ cond-false (p last) (last ∷ behind) behind fails));
+    small = subst (λ (q : Option Own). IfSome q (IsSmall (done + 1))) (sym new_is) (some_small done (done + 1) o (omega arith) to.small);
+  }
 
 -- ---- the frames of all cranes
 

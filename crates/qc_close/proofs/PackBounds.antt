@@ -1,5 +1,5 @@
 -- What packed tasks come to at most, and that they may be listed.
-use Rattle.std.proofs.Common.{◌≡◌, ℕ, ◌+◌, ◌*◌, ◌<◌, ◌≤◌, inl, inr, true, List, [], ◌∷◌, length, map, Option, None, Some, IfSome, IsSome, ℤ, refl, sym, subst, ◌∙◌, arith, filter, nat_lt}
+use Rattle.std.proofs.Common.{[], ◌≡◌, ℕ, ◌+◌, ◌*◌, ◌<◌, ◌≤◌, inl, inr, true, List, ◌∷◌, length, map, Option, None, Some, IfSome, IsSome, ℤ, refl, sym, subst, ◌∙◌, arith, filter, nat_lt}
 use Rattle.std.specs.List.{list_all}
 use Rattle.std.proofs.lemmas.Bool.{cases_lt, cond_both, lt-ltb}
 use Rattle.std.proofs.lemmas.List.{get_or_past}

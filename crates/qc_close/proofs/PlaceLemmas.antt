@@ -1,5 +1,5 @@
 -- A crane's place between its neighbours: the greatest of all stretches is what its frame says.
-use Rattle.std.proofs.Common.{◌≡◌, ℕ, ◌+◌, ◌-◌, ◌^◌, ◌<◌, ◌≤◌, max, ◌⊎◌, inl, inr, Bool, true, false, ◌||◌, eqb, cond, List, [], ◌∷◌, length, get_or, filter, Option, None, Some, IfSome, is_none, is_some, ℤ, pos, ◌≤ℤ◌, ◌<ℤ◌, int_le, refl, ap, sym, subst, ◌∙◌, arith}
+use Rattle.std.proofs.Common.{[], ◌≡◌, ℕ, ◌+◌, ◌-◌, ◌^◌, ◌<◌, ◌≤◌, max, ◌⊎◌, inl, inr, Bool, true, false, ◌||◌, eqb, cond, List, ◌∷◌, length, get_or, filter, Option, None, Some, IfSome, is_none, is_some, ℤ, pos, ◌≤ℤ◌, ◌<ℤ◌, int_le, refl, ap, sym, subst, ◌∙◌, arith}
 use Rattle.std.proofs.lemmas.Bool.{and_from, and_parts, eq-eqb, eqb-true, false≢true, false_from_ne_true}
 use Rattle.std.proofs.lemmas.Int.{by_lt_z, int_max_is, int_min_is, ints}
 use Rattle.std.specs.Int.{int_max, int_min}
@@ -26,7 +26,7 @@ use Rattle.qc_close.specs.declared.bars.Table.{Table}
 use Rattle.qc_close.specs.declared.frames.Own.{Own}
 use Rattle.qc_close.specs.declared.spots.Spots.{Spots}
 use Rattle.qc_close.proofs.BarLemmas.{none_pass, own_split, sum_before_is, sum_from_is}
-use Rattle.qc_close.proofs.BarredLemmas.{among_done, greatest_among, highest_at, lowest_at}
+use Rattle.qc_close.proofs.Extremes.{among_done, greatest_among, highest_at, lowest_at}
 use Rattle.qc_close.proofs.Members.{Among, among_filter, among_flat, among_range, filter_among, flat_among, range_among}
 use Rattle.qc_close.proofs.SpotLemmas.{count_is, rises, rises_back, spot_at}
 use Rattle.qc_close.proofs.StretchLemmas.{done_outside, own_before, own_from, own_low, spot_low, stretch_is, sum_own, sweep_greatest}

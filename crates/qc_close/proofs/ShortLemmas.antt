@@ -1,6 +1,6 @@
 -- What is counted from both ends says whether some numbers of cranes serve; and what can't be done by a tick can't be
 -- done by an earlier one.
-use Rattle.std.proofs.Common.{◌≡◌, ℕ, ◌+◌, ◌-◌, ◌*◌, ◌/◌, ◌<◌, ◌≤◌, inl, inr, true, false, not, ◌&&◌, List, [], ◌∷◌, length, map, reverse, get_or, nat_lt, leb, Option, None, Some, refl, ap, sym, subst, ◌∙◌, arith, sum, sum_by}
+use Rattle.std.proofs.Common.{[], ◌≡◌, ℕ, ◌+◌, ◌-◌, ◌*◌, ◌/◌, ◌<◌, ◌≤◌, inl, inr, true, false, not, ◌&&◌, List, ◌∷◌, length, map, reverse, get_or, nat_lt, leb, Option, None, Some, refl, ap, sym, subst, ◌∙◌, arith, sum, sum_by}
 use Rattle.std.proofs.Math.Nat.{dvd-mul_left, mul-le-mul_left, mul-zero, mul_comm}
 use Rattle.std.proofs.lemmas.Bool.{and_from, and_parts, cases_Bool, leb-true, le-leb, lt-ltb, ltb-true, not-true, not_from_false, or_cases, or_left, or_right, false≢true, false_from_ne_true}
 use Rattle.std.proofs.lemmas.List.{length-reverse}
@@ -10,7 +10,7 @@ use Rattle.qc_model.specs.declared.direction.Direction.{Direction}
 use Rattle.qc_model.specs.declared.direction.Direction.TheVariants.{Up, Down}
 use Rattle.qc_model.specs.declared.frame.Frame.{Frame}
 use Rattle.qc_model.specs.Closed.{Try, along, bays_to, first, has_room, is_served, is_short, last_before, legs, lists_to, load, most, numbers, room, suffices}
-use Rattle.qc_close.specs.Counts.{AreNumbers, IsCounted, IsStop, NoneSuffice, Suffice, bays_of, try_by}
+use Rattle.qc_close.specs.Counts.{AreNumbers, IsWalked, IsStop, NoneSuffice, Suffice, bays_of, try_by}
 use Rattle.qc_close.specs.declared.walk.Stop.{Stop}
 use Rattle.qc_close.specs.declared.walk.Walk.{Walk}
 use Rattle.qc_close.proofs.GrainLemmas.{multiple_to}
@@ -83,7 +83,7 @@ nil_of : (xs : List ℕ) → length xs ≡ 0 → xs ≡ []
 nil_of [] e = refl
 nil_of (x ∷ xs) e = absurd (omega arith)
 
-module _ (t : Try) (up down : Walk) (u : IsCounted t Up (along t Up) up) (d : IsCounted t Down (along t Down) down) where
+module _ (t : Try) (up down : Walk) (u : IsWalked t Up (along t Up) up) (d : IsWalked t Down (along t Down) down) where
   abbrev rooms : ℕ
   rooms = sum (map (λ f. room t (bays_to Up f (first t Up) + bays_to Down f (first t Down)) f) t.frames)
 
@@ -104,8 +104,8 @@ module _ (t : Try) (up down : Walk) (u : IsCounted t Up (along t Up) up) (d : Is
       least served =
           let r = any_at (λ ns. list_any (has_room t ns) (numbers t Down)) (numbers t Up) served in
           let q = any_at (has_room t r.0) (numbers t Down) r.2 in
-          let less_up = u.least r.0 (suffice_of t Up r.0 r.1) in
-          let less_down = d.least q.0 (suffice_of t Down q.0 q.1) in
+          let less_up = (u.least r.0 (suffice_of t Up r.0 r.1)).0 in
+          let less_down = (d.least q.0 (suffice_of t Down q.0 q.1)).0 in
           let less : legs t Up (along t Up) u.numbers + legs t Down (along t Down) d.numbers
           ≤ legs t Up (along t Up) r.0 + legs t Down (along t Down) q.0 = omega (arith, less_up, less_down) in
           le-leb (needed u.numbers d.numbers) rooms

@@ -1,15 +1,15 @@
 -- What is told of packed tasks by where they lie is what their definition says.
-use Rattle.std.proofs.Common.{◌≡◌, ◌≢◌, All, MatchBool, ℕ, zero, suc, ◌+◌, ◌-◌, ◌*◌, ◌<◌, ◌≤◌, inl, inr, Bool, true, false, ◌&&◌, ◌||◌, eqb, not, List, [], ◌∷◌, length, get_or, map, Option, None, Some, IfSome, is_some, ℤ, pos, ◌≤ℤ◌, ◌<ℤ◌, refl, ap, sym, subst, ◌∙◌, arith, filter, int_le, nat_lt}
+use Rattle.std.proofs.Common.{[], ◌≡◌, ◌≢◌, All, MatchBool, ℕ, zero, suc, ◌+◌, ◌-◌, ◌*◌, ◌<◌, ◌≤◌, inl, inr, Bool, true, false, ◌&&◌, ◌||◌, eqb, not, List, ◌∷◌, length, get_or, map, Option, None, Some, IfSome, is_some, ℤ, pos, ◌≤ℤ◌, ◌<ℤ◌, refl, ap, sym, subst, ◌∙◌, arith, filter, int_le, nat_lt, ◌+ℤ◌, ◌-ℤ◌}
 use Rattle.std.specs.List.{AllByRecursion, IsDistinct, list_all, list_any, range_with_len}
-use Rattle.std.proofs.Math.Nat.{mul-sub}
-use Rattle.std.proofs.lemmas.Bool.{and_from, and_parts, cases_eq, cases_lt, cond-true, cond_both, false_from_ne_true, eq-eqb, eqb-true, lt-ltb, ltb-true, not-true, or_cases, or_left, or_right}
+use Rattle.std.proofs.Math.Nat.{mul-sub, mul-le-mul_left, mul-zero}
+use Rattle.std.proofs.lemmas.Bool.{and_from, and_parts, cases_eq, cases_lt, cond-true, cond_both, false_from_ne_true, eq-eqb, eqb-true, lt-ltb, ltb-true, not-true, or_cases, or_left, or_right, cond-false, le-ltb}
 use Rattle.std.proofs.lemmas.Int.{by_lt_z, ints}
 use Rattle.std.proofs.lemmas.List.Elements.{All-from_recursion}
 use Rattle.std.proofs.lemmas.Map.Keys.{IsDistinct-cons}
 use Rattle.std.proofs.lemmas.Map.Steps.{length-le_from_distinct_below}
 use Rattle.std.proofs.lemmas.Nat.{mul-le}
 use Rattle.qc_model.specs.Bays.{bays_up}
-use Rattle.qc_model.specs.Instance.{InstanceView}
+use Rattle.qc_model.specs.Instance.{InstanceView, bay_of}
 use Rattle.qc_model.specs.Work.{ticks_over}
 use Rattle.qc_model.specs.Nodes.{reaches}
 use Rattle.qc_model.specs.Ticks.{task_distance}
@@ -19,7 +19,29 @@ use Rattle.qc_model.specs.Assignments.{AreInRange, crane_in, cranes_by, cranes_f
 use Rattle.qc_close.specs.Bands.{AllLie, AreStacked, IsFound, IsFoundFrom, IsStretch, Lies, may, may_by}
 use Rattle.qc_model.specs.Packs.{all_clash, all_differ, clash, is_doable, is_packed, may_lie, pack, places, span, stretches}
 use Rattle.qc_close.proofs.Members.{Among, all_at, all_from, among_filter, among_flat, among_map, among_range, any_at, any_from, filter_among, flat_among, least_at, least_from, map_among, range_among}
-use Rattle.qc_close.proofs.PackLemmas.{higher_distance, lower_distance, some_bays}
+
+-- ---- distances as differences of places
+
+place_gap : (g v w : ℕ) (x y : ℤ) → v ≤ w
+    → bays_up y (x +ℤ pos (g * (w - v))) ≡ bays_up (y -ℤ pos (g * w)) (x -ℤ pos (g * v))
+place_gap g v w x y low = omega (arith, bays, mul-sub g w v, mul-le-mul_left g low)
+
+module _ (inst : InstanceView) (i v j w : ℕ) where
+  -- two cranes come too near where the lower one's place lies higher, and must keep clear by so much
+  pub lower_distance : v < w → task_distance inst i v j w ≡ inst.travel * bays_up (place inst j w) (place inst i v)
+  lower_distance low =
+      let bays_are = cond-true (nat_lt v w) _ _ (lt-ltb v w low) in
+      ap (λ n. inst.travel * n) (bays_are ∙ place_gap inst.gap v w (bay_of inst i) (bay_of inst j) (omega arith))
+
+  pub higher_distance : w < v → task_distance inst i v j w ≡ inst.travel * bays_up (place inst i v) (place inst j w)
+  higher_distance high =
+      let bays_are =
+      cond-false (nat_lt v w) _ _ (le-ltb v w (omega arith)) ∙ cond-true (nat_lt w v) _ _ (lt-ltb w v high) in
+      ap (λ n. inst.travel * n) (bays_are ∙ place_gap inst.gap w v (bay_of inst j) (bay_of inst i) (omega arith))
+
+pub some_bays : (t n : ℕ) → 0 < t * n → 0 < n
+some_bays t zero h = absurd (omega (arith, mul-zero t))
+some_bays t (suc n) h = omega arith
 
 -- ---- members by their index
 

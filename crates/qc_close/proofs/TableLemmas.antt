@@ -1,5 +1,5 @@
 -- The table of what each crane's tasks come to: of no tasks, and as one task gets its crane or loses it.
-use Rattle.std.proofs.Common.{◌≡◌, ◌≢◌, ℕ, zero, suc, ◌+◌, ◌-◌, ◌*◌, ◌<◌, ◌≤◌, inl, inr, Bool, true, false, ◌&&◌, eqb, cond, List, [], ◌∷◌, length, get_or, set, filter, replicate, Option, None, Some, refl, ap, sym, subst, ◌∙◌, arith, add-one}
+use Rattle.std.proofs.Common.{[], ◌≡◌, ◌≢◌, ℕ, zero, suc, ◌+◌, ◌-◌, ◌*◌, ◌<◌, ◌≤◌, inl, inr, Bool, true, false, ◌&&◌, eqb, cond, List, ◌∷◌, length, get_or, set, filter, replicate, Option, None, Some, refl, ap, sym, subst, ◌∙◌, arith, add-one}
 use Rattle.std.proofs.lemmas.Bool.{and_parts, cases_Bool, cases_eq, cases_lt, cond-false, cond-true, eqb-true, false_from_ne_true, false≢true}
 use Rattle.std.proofs.lemmas.List.{get_or_past, get_or-replicate, get_or-set_other, get_or-set_same, length-replicate, length-set}
 use Rattle.std.specs.List.{range_with_len}
@@ -18,7 +18,7 @@ use Rattle.qc_close.specs.declared.spots.Spots.{Spots}
 use Rattle.qc_close.proofs.BarLemmas.{bars_cons, bars_same, filter_same, none_joined, none_pass}
 use Rattle.qc_close.proofs.CrewLemmas.{none_there}
 use Rattle.qc_close.proofs.Members.{Among, filter_among, range_among}
-use Rattle.qc_close.proofs.OwnLemmas.{one_more}
+use Rattle.qc_close.proofs.OwnLemmas.{with_next}
 
 -- ---- what the tasks of a cell come to, from the last task to the first
 
@@ -30,24 +30,17 @@ module _ (inst : InstanceView) (cranes : List (Option ℕ)) (p : ℕ → Bool) (
   abbrev behind : List ℕ
   behind = filter p (range_with_len (count - done) done)
 
-  at : count - (done + 1) ≡ last
-  at = omega arith
-
-  with_next : filter p (range_with_len (count - (done + 1)) (done + 1)) ≡ cond (p last) (last ∷ behind) behind
-  with_next =
-      ap (λ from. filter p (range_with_len from (done + 1))) at ∙ one_more inst p (count - done) last done (omega arith)
-
   pub bars_next : (one new : Bars) → p last ≡ true → one.ticks ≡ ticks_of inst last → one.soonest ≡ soonest inst cranes last
       → one.low ≡ bay_of inst last → one.high ≡ bay_of inst last → new ≡ joined one bars → new ≡ bars_of inst cranes (filter p (range_with_len (count - (done + 1)) (done + 1)))
   bars_next one new passes ticks soon bay_low bay_high new_is =
       new_is ∙ ap (joined one) is
       ∙ ap (λ b. joined b (bars_of inst cranes behind)) (bars_same _ _ _ _ _ _ _ _ ticks soon bay_low bay_high)
       ∙ sym (bars_cons inst cranes last behind)
-      ∙ ap (bars_of inst cranes) (sym (with_next ∙ cond-true (p last) (last ∷ behind) behind passes))
+      ∙ ap (bars_of inst cranes) (sym (with_next inst p count done low ∙ cond-true (p last) (last ∷ behind) behind passes))
 
   pub bars_skip : p last ≡ false → bars ≡ bars_of inst cranes (filter p (range_with_len (count - (done + 1)) (done + 1)))
   bars_skip fails =
-      is ∙ ap (bars_of inst cranes) (sym (with_next ∙ cond-false (p last) (last ∷ behind) behind fails))
+      is ∙ ap (bars_of inst cranes) (sym (with_next inst p count done low ∙ cond-false (p last) (last ∷ behind) behind fails))
 
 -- a test that only numbers from a to before b pass
 module _ (p : ℕ → Bool) where

@@ -88,15 +88,6 @@ pub record IsWalked (t : Try) (way : Direction) (xs : List ℕ) (w : Walk) : Typ
   pub least : (ns : List ℕ) → Suffice t way xs ns
       → (legs t way xs numbers ≤ legs t way xs ns) × (slice_index numbers 0 ≤ slice_index ns 0)
 
--- numbers that suffice have been found for which cranes go the least
-pub record IsCounted (t : Try) (way : Direction) (xs : List ℕ) (w : Walk) : Type 0 where
-  pub numbers : List ℕ
-  pub sufficient : Suffice t way xs numbers
-  pub stop : IsStop w.last xs numbers
-  pub work : w.work ≡ sum_by t.work xs
-  pub leg_sum : w.legs ≡ legs t way xs numbers
-  pub least : (ns : List ℕ) → Suffice t way xs ns → legs t way xs numbers ≤ legs t way xs ns
-
 -- no numbers suffice
 abbrev pub NoneSuffice : Try → Direction → List ℕ → Type 0
 NoneSuffice t way xs = (ns : List ℕ) → ¬ Suffice t way xs ns

@@ -2,13 +2,13 @@ pub mod Crews
 pub mod CrewFields
 pub mod Bands
 pub mod Counts
+pub mod Tried
 pub mod Grains
 pub mod Owns
 pub mod Lefts
 pub mod Lasts
 pub mod Spots
 pub mod Bars
-pub mod Rests
 pub mod Trips
 pub mod Lists
 pub mod Moves

@@ -1,9 +1,9 @@
 //! Which crane has which task.
 
-ghost use Rattle.std.specs.Prelude.{◌≡◌, ◌||◌, ◌<◌, ◌≤◌, ℕ, List, Option, None, Some, IfOk, IsSome, OnOk, IsTrue, length, replicate, slice_set, true};
+ghost use Rattle.std.specs.Prelude.{◌≡◌, ◌||◌, ◌<◌, ◌≤◌, ℕ, List, Option, None, Some, IfOk, IsSome, OnOk, length, replicate, slice_set, true};
 ghost use Rattle.qc_model.specs.Instance.{Valid};
 ghost use Rattle.qc_model.specs.Assignments.{AreInRange, crane_in, no_cranes};
-ghost use Rattle.qc_model.specs.Closed.{IsClosedBound, is_closed, is_short_along, is_short_before};
+ghost use Rattle.qc_model.specs.Closed.{is_closed, is_short_along, is_short_before};
 ghost use Rattle.qc_close.specs.Bars.{Changes, IsTable};
 ghost use Rattle.qc_close.specs.Crews.{CrewView};
 ghost use Rattle.qc_close.specs.CrewFields.{view_of, IsKept};
@@ -304,8 +304,6 @@ impl Crew {
         requires some { 0 < end }
         requires limit { end ≤ LAST_CLOSED }
         ensures closed { result ≡ is_closed self.now.inst self.now.turn self.now.cranes end }
-        ensures bound { IsTrue result
-            → IsClosedBound self.now.inst self.now.turn self.now.cranes end }
     {
         end <= self.bare || self.is_short(end)
     }

@@ -9,13 +9,13 @@ ghost use Rattle.qc_model.specs.Instance.{IsOnRail};
 ghost use Rattle.qc_model.specs.Work.{crane_numbers};
 ghost use Rattle.qc_close.specs.Bars.{IsTable, left_of, together};
 ghost use Rattle.qc_close.specs.Counts.{AreNear, IsNear};
-ghost use Rattle.qc_close.specs.Owns.{IsSmall, frame_by, own_of};
+ghost use Rattle.qc_close.specs.Owns.{IsSmall, frame_by, own_of, with_task};
 ghost use Rattle.qc_close.specs.Spots.{AreSpots};
 
 use crate::barred::{barred_gone, sum_along};
 use crate::bars::{Table, own_in};
 use crate::spots::Spots;
-use qc_model::{Direction, Frame, Instance, MOST_CRANES, Turn, bays_between, bays_up};
+use qc_model::{Direction, Frame, Instance, MOST_CRANES, Task, Turn, bays_between, bays_up};
 use qc_num::{Bay, Tick};
 
 /// The tasks of a crane: their ticks, and the bays of the lowest and the highest of them.
@@ -24,6 +24,42 @@ pub(crate) struct Own {
     pub(crate) ticks: Tick,
     pub(crate) low: Bay,
     pub(crate) high: Bay,
+}
+
+/// Some tasks and one more.
+fn with_task(own: Option<Own>, task: Task) -> Own
+    requires own { IfSome own (λ o. o.ticks < 2 ^ 60) }
+    requires task { task.ticks < 2 ^ 60 }
+    ensures { result ≡ with_task own task }
+{
+    match own {
+        None => Own {
+            ticks: task.ticks,
+            low: task.bay,
+            high: task.bay,
+        },
+        Some(own) => Own {
+            ticks: task.ticks + own.ticks,
+            low: task.bay.min(own.low),
+            high: task.bay.max(own.high),
+        },
+    }
+}
+
+/// The tasks that no crane has.
+fn left_tasks(inst: &Instance, cranes: &[Option<u16>]) -> Option<Own>
+    requires { length cranes.now ≡ length inst.now.tasks }
+    ensures { result ≡ own_of inst.now (left_of inst.now cranes.now) }
+{
+    let count = inst.task_count();
+    let mut left = None;
+    for done in 0..count {
+        let task = count - 1 - done;
+        if cranes[task as usize].is_none() {
+            left = Some(with_task(left, inst.task(task)));
+        }
+    }
+    left
 }
 
 /// The bays that a crane goes from its start bay to come to a low and a high bay.
@@ -120,16 +156,15 @@ pub(crate) fn first_frames(frames: &[Frame; 8], count: usize) -> &[Frame]
     &frames[..count]
 }
 
-/// What each crane has spent, where these tasks are left: as many entries count as there are cranes.
+/// What each crane has spent: as many entries count as there are cranes.
 pub(crate) fn frames(
     inst: &Instance,
     turn: Turn,
     cranes: &[Option<u16>],
     spots: &Spots,
     table: &Table,
-    left: Option<Own>,
 ) -> [Frame; 8]
-    requires left { left ≡ own_of inst.now (left_of inst.now cranes.now) }
+    requires count { length cranes.now ≡ length inst.now.tasks }
     requires range { AreInRange inst.now cranes.now }
     requires spots { AreSpots inst.now spots.now }
     requires table { IsTable inst.now cranes.now spots.now table.now }
@@ -137,6 +172,7 @@ pub(crate) fn frames(
         ≡ map (barred_frame inst.now turn cranes.now) (crane_numbers inst.now) }
     ensures near { AreNear (take (length inst.now.cranes) result) }
 {
+    let left = left_tasks(inst, cranes);
     let mut frames = [Frame {
         works: false,
         gone: 0,

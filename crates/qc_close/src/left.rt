@@ -21,7 +21,8 @@ fn add_tasks(inst: &Instance, left: &mut [Tick])
     requires { left.old ≡ replicate (inst.now.bays + 1) 0 }
     ensures { IsLeft inst.now (no_cranes inst.now) left.new }
 {
-    for task in inst.tasks() {
+    for number in 0..inst.task_count() {
+        let task = inst.task(number);
         left[task.bay as usize] += task.ticks;
     }
 }

@@ -2,23 +2,20 @@
 //! decided of the order of tasks.
 //!
 //! The ticks that packed tasks need (`Crew::pack`), and whether an assignment is closed at an end
-//! and the last such end (`Crew::closed`, `latest_closed`), exactly as defined. As laws no schedule
-//! that follows it ends before (`closed_ends_are_bounds`, `nodes_end_no_earlier`).
+//! and the last such end (`Crew::closed`, `latest_closed`), exactly as defined. That no schedule
+//! that follows it ends before are the laws of `qc_laws`.
 #![tactic(auto)]
 
 mod barred;
 mod bars;
 mod closed;
-mod come;
+mod count;
 mod crew;
 mod frames;
 mod grain;
-mod laws;
 mod left;
 mod limit;
 mod packs;
-mod rest;
-mod same;
 mod short;
 mod spots;
 mod sums;

@@ -1,12 +1,9 @@
 //! The last end of all at which an assignment is closed.
 
-ghost use Rattle.std.specs.Prelude.{◌≡◌, ◌+◌, ◌*◌, ◌<◌, ◌≤◌, ℕ, List, Option, false, true};
+ghost use Rattle.std.specs.Prelude.{◌≡◌, ◌+◌, ◌*◌, ◌<◌, ◌≤◌, false, true};
 ghost use Rattle.qc_close.specs.Lasts.{IsLatest};
 ghost use Rattle.qc_model.specs.declared.limits.TheConstants.{MOST_START};
-ghost use Rattle.qc_model.specs.declared.turn.Turn.{Turn};
-ghost use Rattle.qc_model.specs.Assignments.{AreInRange};
 ghost use Rattle.qc_model.specs.Closed.{is_closed};
-ghost use Rattle.qc_model.specs.Instance.{InstanceView, Valid};
 
 use crate::crew::Crew;
 use qc_model::MOST_START;
@@ -58,10 +55,3 @@ impl Crew {
         low
     }
 }
-
-/// No assignment is closed at an end of more than twelve digits: by then one crane alone has the time for
-/// all that is left.
-fn closed_ends_are_soon()
-    ensures { (inst : InstanceView) (turn : Turn) (cranes : List (Option ℕ)) (end : ℕ) → Valid inst
-        → AreInRange inst cranes → is_closed inst turn cranes end ≡ true → end ≤ MOST_START }
-{}

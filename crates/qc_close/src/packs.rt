@@ -8,7 +8,7 @@ ghost use Rattle.qc_model.specs.Work.{crane_numbers, ticks_over};
 ghost use Rattle.qc_model.specs.Nodes.{reaches};
 ghost use Rattle.qc_model.specs.Assignments.{place};
 ghost use Rattle.qc_close.specs.Bands.{AreBelow, AreStacked, IsBandOf, IsFinding, IsFoundFrom, IsNearest, IsPlace, IsReach, IsStretch, Lies, may, widened};
-ghost use Rattle.qc_model.specs.Packs.{IsPackBound, all_clash, all_differ, is_doable, is_packed, pack};
+ghost use Rattle.qc_model.specs.Packs.{all_clash, all_differ, is_doable, is_packed, pack};
 
 use crate::Crew;
 use qc_dist::in_reach;
@@ -331,7 +331,6 @@ impl Crew {
     /// and the travel between them. `None` exactly where they aren't packed.
     pub fn pack(&self, tasks: &[u16]) -> Option<Tick>
         ensures ticks { result ≡ pack self.now.inst self.now.cranes tasks.now }
-        ensures bound { IfSome result (IsPackBound self.now.inst self.now.cranes tasks.now) }
         ensures soon { IfSome result (λ ticks. ticks ≤ MOST_TASKS * MOST_WORK + MOST_DISTANCE) }
     {
         let inst = self.instance();

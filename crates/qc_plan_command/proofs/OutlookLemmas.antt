@@ -1,7 +1,7 @@
 -- No schedule that cranes may follow ends before the bound that is told before a search.
 use Rattle.std.proofs.Common.{◌≡◌, ℕ, zero, suc, ◌≤◌, arith, List, [], min, inl, inr}
 use Rattle.qc_close.specs.Crews.{CrewView, IsCrewOf}
-use Rattle.qc_close.proofs.NodeLemmas.{closed_node_le}
+use Rattle.qc_laws.proofs.NodeLemmas.{closed_node_le}
 use Rattle.qc_model.specs.declared.direction.Direction.TheVariants.{Down}
 use Rattle.qc_model.specs.declared.schedule.Slot.{Slot}
 use Rattle.qc_model.specs.declared.turn.Turn.{Turn}

@@ -18,7 +18,7 @@ use Rattle.qc_model.specs.Leaves.{leaf_value}
 use Rattle.qc_model.specs.Nodes.{Agrees, Conflicts, Fits, IsSettled}
 use Rattle.qc_model.specs.OneWay.{IsAllowedBy, mirror, mirror_schedule, mirror_slot, mirror_task}
 use Rattle.qc_model.specs.Rules.{Feasible, crane_of, ends, last_end, starts}
-use Rattle.qc_close.proofs.NodeLemmas.{leaf_le}
+use Rattle.qc_laws.proofs.NodeLemmas.{leaf_le}
 use Rattle.qc_model.proofs.MirrorLemmas.{mirror_valid}
 use Rattle.qc_model.proofs.NodeLemmas.{conflict_turned, unsettled_unordered}
 use Rattle.qc_model.proofs.TurnLemmas.{by_feasible, goes_by}

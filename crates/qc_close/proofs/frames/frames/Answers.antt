@@ -44,7 +44,7 @@ barred_gone-gone-requires-clause-around c =
         own_is = c.own_in-own.ensures ∙ ap own_in c.sum_along.ensures
             ∙ whole_own inst c.crane_count-crane-end.ensures.valid c.args.cranes.now c.args.spots.now c.requires.spots c.args.table.now c.requires.table
             c.loop-crane.crane low;
-        left_is = c.requires.left;
+        left_is = c.left_tasks-left.ensures;
       },
     )
 
@@ -65,7 +65,7 @@ loop-crane-preserved c =
       spots = c.requires.spots;
       table = c.requires.table;
       own_is = own_is;
-      left_is = c.requires.left;
+      left_is = c.left_tasks-left.ensures;
     }) (ap (λ (f : Frame). f.gone) frame_is) in
     record {
       many = length-set c.loop-crane.frames w c.with_gone.result ∙ c.loop-crane.invariant.many;

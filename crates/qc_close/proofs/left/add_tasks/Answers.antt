@@ -1,26 +1,24 @@
-use Rattle.std.proofs.Common.{ap, arith, length, ◌+◌, ◌∙◌}
-use Rattle.std.proofs.lemmas.Grind.{common_steps}
-use Rattle.std.proofs.lemmas.List.{length-replicate}
-use Rattle.qc_close.proofs.CrewLemmas.{added_all, added_at, none_added}
+use Rattle.std.proofs.Common.{arith, of_z, to_z, w32}
+use Rattle.std.proofs.Math.IntN.{nat_abs}
+use Rattle.qc_close.proofs.CrewLemmas.{all_opened, none_opened, one_opened, opened, work_within}
 use Rattle.qc_close.proofs.left.add_tasks.Goals as goal
 
-pub loop-task-init : goal.loop-task-init
-loop-task-init c =
-    none_added c.args.inst.now _ (ap length c.requires ∙ length-replicate (c.args.inst.now.bays + 1) 0) c.requires
+pub loop-number-init : goal.loop-number-init
+loop-number-init c = none_opened c.args.inst.now _ c.requires
 
 pub overflow_add-left : goal.overflow_add-left
-overflow_add-left c = grind (arith, common_steps)
+overflow_add-left c =
+    let x = nat_abs (to_z w32 (of_z w32 c.task-task.result.bay)) in
+    let within = work_within c.args.inst.now c.task-task.ensures.valid (opened c.args.inst.now c.loop-number.number) x in
+    omega (arith, c.loop-number.invariant.work x, within, c.task-task.ensures.bound)
 
-pub loop-task-preserved : goal.loop-task-preserved
-loop-task-preserved c =
-    added_at c.args.inst.now c.tasks-task-items.ensures.valid c.tasks-task-items.result.now c.tasks-task-items.ensures.tasks
-    c.loop-task.task-index c.loop-task.left (omega arith) c.loop-task.invariant
+pub loop-number-preserved : goal.loop-number-preserved
+loop-number-preserved c =
+    one_opened c.args.inst.now c.task-task.ensures.valid c.loop-number.number c.loop-number.left c.task-task.result
+    (omega (arith, c.loop-number-test.true, c.task_count-number-end.ensures.count)) c.task-task.ensures.task c.loop-number.invariant
 
 pub returns : goal.returns
 returns c =
-    added_all c.args.inst.now c.loop-task.task-index c.loop-task.left
-    (omega (arith, c.loop-task-test.false, c.loop-task.auto.task-index-end, ap length c.tasks-task-items.ensures.tasks))
-    c.loop-task.invariant
-
-pub overflow_cast-left : goal.overflow_cast-left
-overflow_cast-left c = grind (arith, common_steps)
+    all_opened c.args.inst.now c.loop-number.left c.loop-number.number
+    (omega (arith, c.loop-number-test.false, c.loop-number.auto.number-end, c.task_count-number-end.ensures.count))
+    c.loop-number.invariant

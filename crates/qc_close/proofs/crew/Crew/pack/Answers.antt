@@ -4,7 +4,6 @@ use Rattle.qc_model.specs.Instance.{InstanceView}
 use Rattle.qc_model.specs.Work.{ticks_over}
 use Rattle.qc_model.specs.Packs.{pack}
 use Rattle.qc_close.proofs.LoopLemmas.{least_steps}
-use Rattle.qc_close.proofs.PackLemmas.{pack_end_le}
 use Rattle.qc_close.proofs.SpanLemmas.{pack_found, pack_is, packed_few, packed_stacked}
 use Rattle.qc_close.proofs.crew.Crew.pack.Goals.{After-travel_over}
 use Rattle.qc_close.proofs.crew.Crew.pack.Goals as goal
@@ -37,10 +36,6 @@ answered c =
 
 pub returns-in-Some-clause-ticks : goal.returns-in-Some-clause-ticks
 returns-in-Some-clause-ticks c = answered c
-
-pub returns-in-Some-clause-bound : goal.returns-in-Some-clause-bound
-returns-in-Some-clause-bound c =
-    pack_end_le c.args.self.now.inst c.args.self.now.cranes c.args.tasks.now (c.ticks.result + c.travel_over.result) (sym (answered c))
 
 pub ticks-requires-clause-tasks : goal.ticks-requires-clause-tasks
 ticks-requires-clause-tasks c = grind (arith, common_steps)

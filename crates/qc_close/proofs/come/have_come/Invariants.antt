@@ -1,7 +1,0 @@
-use Rattle.std.proofs.Common.{◌≡◌, ℕ, ◌<◌, get_or}
-use Rattle.qc_model.specs.declared.frame.Frame.{Frame}
-use Rattle.qc_model.specs.Closed.{bays_to}
-use Rattle.qc_close.proofs.come.have_come.Given as goal
-
-abbrev pub invariant-loop-frame : goal.invariant-loop-frame
-invariant-loop-frame l = (i : ℕ) (d : Frame) → i < l.frame-index → bays_to l.way (get_or l.frames i d) l.bay ≡ 0

@@ -1,5 +1,0 @@
-use Rattle.qc_close.proofs.NodeLemmas.{closed_node_le, packed_end_le}
-use Rattle.qc_close.proofs.laws.nodes_end_no_earlier.Goals as goal
-
-pub returns : goal.returns
-returns c = record { packed = packed_end_le; closed = closed_node_le }
