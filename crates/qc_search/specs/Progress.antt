@@ -1,6 +1,6 @@
 -- inner: how far a search has come, and what its steps write and leave. A bound is a lower bound on the ends of
 -- schedules; the incumbent is the best schedule that is known.
-use Rattle.std.specs.Prelude.{◌≡◌, ℕ, ◌<◌, ◌≤◌, ◌⊎◌, List, [], ◌∷◌, ◌++◌, map, length, Option, None, Some, Result, Ok, Err, ⊤, IfSome, OnOk, Contains}
+use Rattle.std.specs.Prelude.{◌≡◌, ℕ, ◌<◌, ◌≤◌, ◌⊎◌, List, [], ◌∷◌, ◌++◌, map, length, Option, None, Some, Result, Ok, Err, ⊤, IfOk, IfSome, OnOk, Contains}
 use Rattle.qc_io.specs.declared.writing.WriteFault.{WriteFault}
 use Rattle.qc_io.specs.Outside.{View}
 use Rattle.qc_io.specs.Writes.{Writes}
@@ -15,7 +15,7 @@ use Rattle.qc_model.specs.declared.direction.Direction.TheVariants.{Up, Down}
 use Rattle.qc_model.specs.declared.pair.Pair.{Pair}
 use Rattle.qc_model.specs.declared.schedule.Slot.{Slot}
 use Rattle.qc_model.specs.declared.turn.Turn.TheVariants.{Free}
-use Rattle.qc_model.specs.Instance.{InstanceView}
+use Rattle.qc_model.specs.Instance.{InstanceView, Valid}
 use Rattle.qc_model.specs.Nodes.{Agrees, AreLeast, Fits, IsComplete, IsInReach, IsSettled, schedule_with}
 use Rattle.qc_model.specs.Numbers.{most_start, most_tasks}
 use Rattle.qc_model.specs.OneWay.{flipped}
@@ -25,6 +25,8 @@ use Rattle.qc_tree.specs.Trees.{Holds, IsTree, Leads, Node, Sign, Tree, part_tex
 use Rattle.qc_search.specs.declared.progress.Progress.{Progress}
 use Rattle.qc_search.specs.Earned.{IsEarnedBehind, IsKnownEnd, IsSolved, TreeNode, branchings_in, node_at, part_nodes, solved_end, tree_nodes}
 use Rattle.qc_search.specs.Run.{IsFirst, best_end}
+use Rattle.qc_search.specs.Walk.{IsChild, from_child, from_node, steps_left}
+use Rattle.qc_starts.specs.Seen.{StartsNode}
 use Rattle.qc_starts.specs.Tight.{IsSeenSo, IsTight, ordered_pairs}
 
 -- the progress before the first line
@@ -154,6 +156,26 @@ emptied (Err fault) = Err fault
 abbrev pub left_by : {A : Type 0} → (A → List (List Decision)) → Result A WriteFault → List (List Decision)
 left_by left (Ok x) = left x
 left_by left (Err fault) = []
+
+-- a node at which a line is to be written
+pub record IsMet (node : StartsNode) (now : Progress) : Type 0 where
+  pub valid : Valid node.inst
+  pub in_reach : IsInReach node.inst node.decisions
+  pub count : length now.incumbent ≡ length node.inst.tasks
+  pub room : HasRoom most_tasks now.path
+  pub few : now.branched ≤ now.limit
+
+-- the line of a node was written, or a front part of it. Behind it comes its first child, which is answered, if it has
+-- children; with each line fewer may still come
+pub record Visits (before after : View) (node : StartsNode) (way : Direction) (old new : Progress)
+    (result : Result (Option Decision) WriteFault) : Type 0 where
+  pub line : WritesNodes [] before after node.inst way (from_node node.inst node.decisions)
+      (left_by (from_child node.inst node.decisions) result) old new (emptied result)
+  pub child : IfOk result (λ child. IfSome child (IsChild node.inst node.decisions))
+  pub fewer : IfOk result (λ child.
+      steps_left (from_child node.inst node.decisions child) new.limit new.branched
+      < steps_left (from_node node.inst node.decisions) old.limit old.branched)
+  pub few : OnOk result (new.branched ≤ new.limit)
 
 -- an end improves on that of the incumbent, if there is one
 abbrev pub Improves : ℕ → Bound → Type 0
