@@ -17,17 +17,17 @@ use Rattle.qc_model.specs.declared.schedule.Slot.{Slot}
 use Rattle.qc_model.specs.declared.turn.Turn.TheVariants.{Free}
 use Rattle.qc_model.specs.Instance.{InstanceView, Valid}
 use Rattle.qc_model.specs.Nodes.{Agrees, AreLeast, Fits, IsComplete, IsInReach, IsSettled, schedule_with}
-use Rattle.qc_model.specs.Numbers.{most_start, most_tasks}
+use Rattle.qc_model.specs.Numbers.{most_branchings, most_start, most_tasks}
 use Rattle.qc_model.specs.OneWay.{flipped}
-use Rattle.qc_model.specs.Rules.{ends, last_end}
+use Rattle.qc_model.specs.Rules.{last_end}
 use Rattle.qc_model.specs.Seen.{seen, seen_schedule}
 use Rattle.qc_tree.specs.Trees.{Holds, IsTree, Leads, Node, Sign, Tree, part_text, sign_value, tree_text}
 use Rattle.qc_search.specs.declared.progress.Progress.{Progress}
 use Rattle.qc_search.specs.Earned.{IsEarnedBehind, IsKnownEnd, IsSolved, TreeNode, branchings_in, node_at, part_nodes, solved_end, tree_nodes}
-use Rattle.qc_search.specs.Run.{IsFirst, best_end}
+use Rattle.qc_search.specs.Run.{best_end}
 use Rattle.qc_search.specs.Walk.{IsChild, from_child, from_node, steps_left}
 use Rattle.qc_starts.specs.Seen.{StartsNode}
-use Rattle.qc_starts.specs.Tight.{IsSeenSo, IsTight, ordered_pairs}
+use Rattle.qc_starts.specs.Tight.{ordered_pairs}
 
 -- the progress before the first line
 abbrev pub begun : (limit : ℕ) → List Slot → SmallVec ℕ → Progress
@@ -236,24 +236,20 @@ pub record IsTightened (inst : InstanceView) (old new : List Slot) (end : ℕ) :
   pub ends : end ≡ last_end inst.tasks begins
   pub soon : end ≤ most_start
 
--- the progress before the first line where a schedule is given: its tight form is the incumbent
-pub record IsBegunWith (home : InstanceView) (given : List Slot) (limit : ℕ) (path : SmallVec ℕ) (now : Progress)
-    : Type 0 where
-  pub way : Direction
-  pub direction : IsSeenSo home.turn home given way
+-- the tight form of a schedule, as it is seen this way, was made the incumbent
+pub record IsBegunWith (home : InstanceView) (given : List Slot) (way : Direction) (old now : Progress) : Type 0 where
   pub end : ℕ
   pub tightened : IsTightened (seen home way) (seen_schedule home given way) now.incumbent end
-  pub is : now ≡ record (begun limit now.incumbent path) { incumbent_end = Least end; way = way }
+  pub is : now ≡ record old { incumbent_end = Least end; way = way; incumbent = now.incumbent }
+
+-- the incumbent as it is answered, if there is one
+abbrev pub known_best : InstanceView → Progress → Option (List Slot)
+known_best home now = shown_best (length home.cranes) now.incumbent_end now.way now.incumbent
 
 -- the progress before the first line, which is that of no nodes behind the schedule with which the search begins
-pub record IsBegun (home : InstanceView) (given : Option (List Slot)) (limit : ℕ) (now : Progress) : Type 0 where
-  pub first : Option (List Slot)
-  pub begins : IsFirst home given first
-  pub tight : IfSome first (IsTight home)
-  pub no_later : IfSome given (λ sched. IsAtMost (best_end home first) (Least (ends home sched)))
-  pub progress : IsProgress home first now []
-  pub known : now.incumbent_end ≡ best_end home first
-  pub limit_is : now.limit ≡ limit
+pub record IsBegun (home : InstanceView) (now : Progress) : Type 0 where
+  pub progress : IsProgress home (known_best home now) now []
   pub bound : now.bound ≡ Never
   pub count : length now.incumbent ≡ length home.tasks
   pub room : HasRoom most_tasks now.path
+  pub few : now.limit ≤ most_branchings
