@@ -1,6 +1,7 @@
 -- What is told of a search follows from what it came to.
-use Rattle.std.proofs.Common.{◌≡◌, ◌≤◌, ℕ, Bool, true, false, arith, List, Option, None, Some, refl, sym, ap, ◌∙◌, subst, IfSome, MatchOption, nat_le, nat_lt, if◌then◌else◌}
-use Rattle.std.proofs.lemmas.Bool.{leb-true, ltb-true}
+use Rattle.std.proofs.Common.{◌≡◌, ◌≤◌, ◌⊎◌, inl, inr, ℕ, Bool, true, false, arith, List, Option, None, Some, refl, sym, ap, ◌∙◌, subst, IfSome, IsSomeAnd, nat_le, if◌then◌else◌}
+use Rattle.std.proofs.lemmas.Bool.{leb-true}
+use Rattle.std.proofs.lemmas.Bool.Decides.{leb_tells}
 use Rattle.qc_num.specs.declared.bound.Bound.{Bound}
 use Rattle.qc_num.specs.declared.bound.Bound.TheVariants.{Least, Never}
 use Rattle.qc_model.specs.declared.schedule.Slot.{Slot}
@@ -9,13 +10,13 @@ use Rattle.qc_model.specs.Judge.{IsJudgeable}
 use Rattle.qc_model.specs.OneWay.{IsAllowed}
 use Rattle.qc_search.specs.declared.done.Kind.{Kind}
 use Rattle.qc_search.specs.declared.done.Kind.TheVariants as kind
-use Rattle.qc_search.specs.Run.{DoneView, IsGivenTold, IsTightEnd, best_end, outcome}
-use Rattle.qc_starts.specs.Tight.{IsTight}
-use Rattle.qc_store.specs.Outcome.{IsChosen, IsFound, IsReread}
+use Rattle.qc_search.specs.Run.{DoneView, IsTightEnd, best_end, outcome}
+use Rattle.qc_starts.specs.Tight.{IsTight, IsTightForm}
+use Rattle.qc_store.specs.Outcome.{IsFound, IsReread, WasOffered}
 use Rattle.qc_store.proofs.OutcomeLemmas.{of_some, short_ends, tight_allowed}
 use Rattle.qc_tree.specs.Trees.{NoneEarlier, Tree}
 use Rattle.qc_num.specs.Bounds.{IsAtMost}
-use Rattle.qc_num.proofs.BoundLemmas.{at_most_through}
+use Rattle.qc_num.proofs.BoundLemmas.{at_most_same, at_most_through}
 use Rattle.qc_model.specs.Rules.{ends}
 use Rattle.qc_model.specs.Numbers.{most_start}
 use Rattle.qc_gantt.specs.Plan.{HasShortEnds}
@@ -111,49 +112,60 @@ pub record IsAtMostTight (inst : InstanceView) (bound : Bound) (sched : List Slo
   pub tight : IsTightEnd inst sched tight_end
   pub by : IsAtMost bound (Least tight_end)
 
--- where it was given, the best schedule ends no later than its tight form
-own_given : (inst : InstanceView) (sched : List Slot) (done : DoneView) → IsGivenTold inst sched done
-    → IsAtMostTight inst (best_end inst done.best) sched
-own_given inst sched done told = record {
-  tight_end = ends inst told.first;
-  tight = record { first = told.first; form = told.form; is = refl; no_later = told.no_later };
-  by = told.best;
-}
+-- an end is as late as a bound, or it isn't
+late_or_not : (b : Bound) (end : ℕ) → IsAtMost b (Least end) ⊎ (¬ IsAtMost b (Least end))
+late_or_not Never end = inr (λ late. late)
+late_or_not (Least n) end = elim (leb_tells n end) [
+  | inl late ↦ inl late.1
+  | inr sooner ↦ inr (λ late. omega (arith, late, sooner.1))
+]
 
--- where the one that was found was given, that one ended earlier
-found_given : (inst : InstanceView) (own found given : List Slot) (done : DoneView) (end : ℕ)
-    → IsTightEnd inst own end
-    → (b : Bool) → nat_lt (ends inst found) end ≡ b → given ≡ (if b then found else own)
-    → IsGivenTold inst given done
-    → IsAtMostTight inst (best_end inst done.best) own
-found_given inst own found given done end tight true less is told =
-    let first = subst (λ (sched : List Slot). IsGivenTold inst sched done) is told in
-    record {
-      tight_end = end;
-      tight = tight;
-      by = at_most_through (best_end inst done.best) (Least (ends inst first.first)) (Least end) first.best
-          (omega (arith, first.no_later, ltb-true (ends inst found) end less));
-    }
-found_given inst own found given done end tight false less is told =
-    own_given inst own done (subst (λ (sched : List Slot). IsGivenTold inst sched done) is told)
+-- an earlier end takes the place of a later one
+taken_sooner : (inst : InstanceView) (sched : List Slot) (before : Bound) (after : Option (List Slot))
+    → ¬ IsAtMost before (Least (ends inst sched))
+    → IsSomeAnd after (λ first. IsTightForm inst sched first × (ends inst first ≤ ends inst sched))
+    → IsAtMost (best_end inst after) before
+taken_sooner inst sched before None later taken = absurd taken
+taken_sooner inst sched Never (Some first) later taken = tt
+taken_sooner inst sched (Least n) (Some first) later taken = omega (arith, later, taken.1)
+
+-- what a search begins with ends no later once it was offered something
+offered_sooner : (inst : InstanceView) (found before after : Option (List Slot)) → WasOffered inst found before after
+    → IsAtMost (best_end inst after) (best_end inst before)
+offered_sooner inst None before after same =
+    subst (λ (o : Option (List Slot)). IsAtMost (best_end inst o) (best_end inst before)) (sym same)
+    (at_most_same (best_end inst before))
+offered_sooner inst (Some sched) before after is = elim (late_or_not (best_end inst before) (ends inst sched)) [
+  | inl late ↦
+      subst (λ (o : Option (List Slot)). IsAtMost (best_end inst o) (best_end inst before)) (sym (is.kept late))
+      (at_most_same (best_end inst before))
+  | inr sooner ↦ taken_sooner inst sched (best_end inst before) after sooner (is.taken sooner)
+]
+
+-- a search that was offered it knows one that ends no later than its tight form
+own_taken : (inst : InstanceView) (sched : List Slot) (best : Bound) (first : Option (List Slot))
+    → IsSomeAnd first (λ form. IsTightForm inst sched form × (ends inst form ≤ ends inst sched))
+    → IsAtMost best (best_end inst first) → IsAtMostTight inst best sched
+own_taken inst sched best None form by = absurd form
+own_taken inst sched best (Some first) form by = record {
+  tight_end = ends inst first;
+  tight = record { first = first; form = form.0; is = refl; no_later = form.1 };
+  by = by;
+}
 
 -- where the planner has a schedule, the best one ends no later than its tight form
 pub own_end : (inst : InstanceView) (nodes : ℕ) (own : Option (List Slot)) (tree : Tree) (done : DoneView)
     → IsFound inst nodes own tree done → IfSome own (IsAtMostTight inst (best_end inst done.best))
-own_end inst nodes own tree done found = by own found.found found.given found.chosen found.came.sound.begins
+own_end inst nodes own tree done found = by own found.own_offered
   where
-    by : (own found given : Option (List Slot)) → IsChosen inst own found given
-        → MatchOption given (done.given ≡ None) (λ one. IsGivenTold inst one done)
+    by : (own : Option (List Slot)) → WasOffered inst own None found.own_first
         → IfSome own (IsAtMostTight inst (best_end inst done.best))
-    by None found given chosen told = tt
-    by (Some sched) None given chosen told =
-        own_given inst sched done
-        (subst (λ (o : Option (List Slot)). MatchOption o (done.given ≡ None)
-        (λ one. IsGivenTold inst one done)) chosen told)
-    by (Some sched) (Some found) None chosen told = absurd chosen
-    by (Some sched) (Some found) (Some given) chosen told =
-        found_given inst sched found given done chosen.end chosen.tight
-        (nat_lt (ends inst found) chosen.end) refl chosen.is told
+    by None offered = tt
+    by (Some sched) offered =
+        own_taken inst sched (best_end inst done.best) found.own_first (offered.taken (λ late. late))
+        (at_most_through (best_end inst done.best) (best_end inst found.first) (best_end inst found.own_first)
+        found.came.sound.no_later
+        (offered_sooner inst found.found found.own_first found.first found.offered))
 
 -- so is the end that is told
 pub own_no_later : (inst : InstanceView) (nodes : ℕ) (own : Option (List Slot)) (tree : Tree) (done : DoneView)

@@ -1,6 +1,5 @@
 pub mod AheadLemmas
 pub mod StoreLemmas
-pub mod SearchLemmas
 pub mod FoundLemmas
 pub mod RoomLemmas
 pub mod LineLemmas
@@ -8,4 +7,3 @@ pub mod InLine
 pub mod Rounds
 pub mod Reach
 pub mod PlanLemmas
-pub mod OutlookLemmas

@@ -1,12 +1,16 @@
 -- What a plan leaves in its files, from what the storing of its search says.
-use Rattle.std.proofs.Common.{◌≡◌, ℕ, true, false, List, Option, None, Some, Result, Ok, Err, ◌⊎◌, ap, ◌∙◌, inl, inr, refl, subst, IfSome, IsSomeAnd, OnErr, OnOk, is_err}
+use Rattle.std.proofs.Common.{◌≡◌, ℕ, true, false, List, Option, None, Some, Result, Ok, Err, ◌⊎◌, ap, ◌∙◌, inl, inr, refl, subst, subst₂, IfOk, IfSome, IsSomeAnd, OnErr, OnOk, is_err}
 use Rattle.qc_io.specs.Outside.{Files, Rose, View}
 use Rattle.qc_model.specs.declared.schedule.Slot.{Slot}
+use Rattle.qc_model.specs.declared.direction.Direction.{Direction}
+use Rattle.qc_model.specs.declared.direction.Direction.TheVariants.{Up, Down}
 use Rattle.qc_model.specs.declared.turn.Turn.{Turn}
+use Rattle.qc_model.specs.declared.turn.Turn.TheVariants as turn
 use Rattle.qc_model.specs.Instance.{InstanceView, Valid}
-use Rattle.qc_model.specs.OneWay.{IsAllowed}
-use Rattle.qc_search.specs.Run.{DoneView, SearchView}
-use Rattle.qc_store.specs.Outcome.{IsChosen}
+use Rattle.qc_model.specs.OneWay.{IsAllowed, IsAllowedBy}
+use Rattle.qc_search.specs.Run.{DoneView, IsSound, SearchView}
+use Rattle.qc_starts.specs.Tight.{IsSeenSo}
+use Rattle.qc_store.specs.Outcome.{WasOffered}
 use Rattle.qc_store.specs.Stored.{IsTreeLeft, IsTreeStored, with_plan}
 use Rattle.qc_run.specs.declared.reading.OwnJob.{OwnJob}
 use Rattle.qc_run.specs.Due.{contents_in, own_job_due}
@@ -20,6 +24,7 @@ use Rattle.qc_plan_command.specs.declared.answer.PlanAnswer.TheVariants as answe
 use Rattle.qc_plan_command.specs.Account.{IsLeft, IsPlanning, IsSearched, IsStopped, IsWritten, Writes}
 use Rattle.qc_plan_command.specs.Asked.{Planning}
 use Rattle.qc_plan_command.specs.Found.{Tells}
+use Rattle.qc_plan_command.specs.Opened.{IsSearchFor, WasRun, search_from}
 
 -- what stays as it was is as it was, told or not
 pub as_it_was : (P : Files → Type 0) (before after : Option Files) → after ≡ before
@@ -29,145 +34,137 @@ as_it_was P (Some held) after same by = by held same
 
 -- ---- what the command comes to
 
-module _ (asked : Planning) (job : OwnJob) (allowed : IfSome job.own (IsAllowed job.inst)) (valid : Valid job.inst)
-    (found given : Option (List Slot))
-    (chosen : IsChosen job.inst job.own found given) (before mid after : Option Files)
-    (due_is : ComesTo (own_job_due asked.inputs.own) asked.inputs before (Ok job)) where
-  abbrev view : SearchView
-  view = record { inst = job.inst; nodes = asked.nodes }
+-- what a search leaves, said over its instance and the shelf before it was told of
+pub was_run : {E : Type 0} (inst : InstanceView) (nodes : ℕ) (now : SearchView) → now ≡ search_from inst nodes now.first
+    → (found before_first : Option (List Slot)) → WasOffered inst found before_first now.first → (name : List ℕ)
+    → (before mid after : Option Files) → mid ≡ before → (result : Result DoneView E)
+    → IfOk result (λ done. IfSome mid (λ held. IsTreeStored now name held after done))
+    → OnErr result (IfSome mid (λ held. IsTreeLeft now name held after))
+    → IfOk result (IsSound now) → WasRun inst nodes before_first name before after result
+was_run inst nodes now is found before_first offered name before mid after same result ok err sound = record {
+  found = found;
+  first = now.first;
+  offered = offered;
+  ok = subst₂ (λ (f : Option Files) (s : SearchView). IfOk result (λ done. IfSome f (λ held. IsTreeStored s name held after done)))
+      same is ok;
+  err = subst₂ (λ (f : Option Files) (s : SearchView). OnErr result (IfSome f (λ held. IsTreeLeft s name held after))) same is err;
+  sound = subst (λ (s : SearchView). IfOk result (IsSound s)) is sound;
+}
 
-  -- the search that is due came to what is stored
-  abbrev searched : (held : Files) (done : DoneView)
-      → ComesTo (own_job_due asked.inputs.own) asked.inputs (Some held) (Ok job)
-      → IsTreeStored view given asked.tree held mid done → IsSearched asked held
-  searched held done due_is stored = record {
-    inst = job.inst;
-    own = job.own;
-    due = due_is;
-    turn = own_job_turn asked.inputs.own (contents_in held asked.inputs) job due_is;
-    valid = valid;
-    allowed = allowed;
-    tree = stored.tree;
-    done = done;
-    found = record { found = found; given = given; chosen = chosen; came = stored.came };
-  }
-
-  -- the tree's file couldn't be made
-  pub left_tree : IfSome before (λ held. IsTreeLeft view given asked.tree held mid)
-      → IfSome before (λ held. IsLeft asked held mid)
-  left_tree = by before due_is
-    where
-      by : (files : Option Files) → ComesTo (own_job_due asked.inputs.own) asked.inputs files (Ok job)
-          → IfSome files (λ held. IsTreeLeft view given asked.tree held mid)
-          → IfSome files (λ held. IsLeft asked held mid)
-      by None due_is left = tt
-      by (Some held) due_is (inl same) = inl same
-      by (Some held) due_is (inr stored) = inr (searched held stored.0 due_is stored.1, inl stored.1.files)
-
-  -- what then holds of the files with the tree holds of those at entry
-  over : (P : Files → Type 0) (now files : Files) → mid ≡ Some now → IfSome mid P → now ≡ files → P files
-  over P now files is h same = subst P same (there mid is h)
-    where
-      there : (m : Option Files) → m ≡ Some now → IfSome m P → P now
-      there None is h = absurd (cc is)
-      there (Some other) is h = let e : other ≡ now = cc in subst P e h
-
-  -- the plan's file couldn't be made
-  pub left_plan : (done : DoneView) → IfSome before (λ held. IsTreeStored view given asked.tree held mid done)
-      → IfSome mid (λ held. (after ≡ Some held) ⊎ (after ≡ Some (with_plan held asked.plan job.inst done.best)))
-      → IfSome before (λ held. IsLeft asked held after)
-  left_plan done = by before due_is
-    where
-      by : (files : Option Files) → ComesTo (own_job_due asked.inputs.own) asked.inputs files (Ok job)
-          → IfSome files (λ held. IsTreeStored view given asked.tree held mid done)
-          → IfSome mid (λ held. (after ≡ Some held)
-          ⊎ (after ≡ Some (with_plan held asked.plan job.inst done.best)))
-          → IfSome files (λ held. IsLeft asked held after)
-      by None due_is stored left = tt
-      by (Some held) due_is stored left = inr (
-        searched held done due_is stored,
-        over (λ files. (after ≡ Some files) ⊎ (after ≡ Some (with_plan files asked.plan job.inst done.best))) _
-            _ stored.files left refl,
-      )
-
-  -- both are made, and the answer tells of the search
-  pub both_written : (done : DoneView) (a : PlanAnswer)
-      → IfSome before (λ held. IsTreeStored view given asked.tree held mid done)
-      → IfSome mid (λ held. after ≡ Some (with_plan held asked.plan job.inst done.best)) → Tells job.inst done a
-      → IfSome before (λ held. IsWritten asked held after a)
-  both_written done a = by before due_is
-    where
-      by : (files : Option Files) → ComesTo (own_job_due asked.inputs.own) asked.inputs files (Ok job)
-          → IfSome files (λ held. IsTreeStored view given asked.tree held mid done)
-          → IfSome mid (λ held. after ≡ Some (with_plan held asked.plan job.inst done.best))
-          → Tells job.inst done a
-          → IfSome files (λ held. IsWritten asked held after a)
-      by None due_is stored wrote told = tt
-      by (Some held) due_is stored wrote told = record {
-        search = searched held done due_is stored;
-        told = told;
-        files = over (λ files. after ≡ Some (with_plan files asked.plan job.inst done.best)) _ _ stored.files
-            wrote refl;
-      }
-
--- the writing of the search that is due was stopped
-stopped : (asked : Planning) (job : OwnJob) → IfSome job.own (IsAllowed job.inst) → (before now : Option Files)
-    → ComesTo (own_job_due asked.inputs.own) asked.inputs before (Ok job)
-    → IfSome before (λ held. IsLeft asked held now) → IfSome before (λ held. IsStopped asked held now)
-stopped asked job allowed None now due left = tt
-stopped asked job allowed (Some held) now due left =
-    record { job = job; due = due; allowed = allowed; left = left }
-
--- where the plan's file was begun, which changed no file
-module _ (asked : Planning) (job : OwnJob) (allowed : IfSome job.own (IsAllowed job.inst)) (search : SearchView)
-    (before created mid after : Option Files) (is : search ≡ record { inst = job.inst; nodes = asked.nodes })
+module _ (asked : Planning) (job : OwnJob) (allowed : IfSome job.own (IsAllowed job.inst)) (before created : Option Files)
     (due : ComesTo (own_job_due asked.inputs.own) asked.inputs before (Ok job)) (same : created ≡ before) where
-  -- it couldn't be begun
+  -- the writing of the search that is due was stopped
+  stopped : (now : Option Files) → IfSome before (λ held. IsLeft asked held now)
+      → IfSome before (λ held. IsStopped asked held now)
+  stopped now = by before due
+    where
+      by : (files : Option Files) → ComesTo (own_job_due asked.inputs.own) asked.inputs files (Ok job)
+          → IfSome files (λ held. IsLeft asked held now) → IfSome files (λ held. IsStopped asked held now)
+      by None due left = tt
+      by (Some held) due left = record { job = job; due = due; allowed = allowed; left = left }
+
+  -- the plan's file couldn't be begun
   pub at_begin : IfSome before (λ held. IsStopped asked held created)
-  at_begin =
-      stopped asked job allowed before created due
-      (as_it_was (λ held. IsLeft asked held created) before created same (λ held e. inl e))
+  at_begin = stopped created (as_it_was (λ held. IsLeft asked held created) before created same (λ held e. inl e))
 
-  abbrev due_search : SearchView
-  due_search = record { inst = job.inst; nodes = asked.nodes }
+  -- it was begun, which changed no file, and the search was run
+  module _ (valid : Valid job.inst) (search : SearchView) (is : IsSearchFor job.inst asked.nodes job.own search)
+      (mid after : Option Files) {E : Type 0} (result : Result DoneView E)
+      (ran : WasRun job.inst asked.nodes search.first asked.tree created mid result) where
+    abbrev now : SearchView
+    now = search_from job.inst asked.nodes ran.first
 
-  module _ (valid : Valid job.inst) (found given : Option (List Slot))
-      (chosen : IsChosen job.inst job.own found given) where
+    -- the search that is due came to what is stored
+    abbrev searched : (held : Files) (done : DoneView)
+        → ComesTo (own_job_due asked.inputs.own) asked.inputs (Some held) (Ok job)
+        → IsTreeStored now asked.tree held mid done → IsSearched asked held
+    searched held done due_is stored = record {
+      inst = job.inst;
+      own = job.own;
+      due = due_is;
+      turn = own_job_turn asked.inputs.own (contents_in held asked.inputs) job due_is;
+      valid = valid;
+      allowed = allowed;
+      tree = stored.tree;
+      done = done;
+      found = record {
+        found = ran.found;
+        own_first = search.first;
+        own_offered = is.offered;
+        first = ran.first;
+        offered = ran.offered;
+        came = stored.came;
+      };
+    }
+
+    -- what then holds of the files with the tree holds of those at entry
+    over : (P : Files → Type 0) (held : Files) → mid ≡ Some held → IfSome mid P → P held
+    over P held is h = there mid is h
+      where
+        there : (m : Option Files) → m ≡ Some held → IfSome m P → P held
+        there None is h = absurd (cc is)
+        there (Some other) is h = let e : other ≡ held = cc in subst P e h
+
     -- the tree's file couldn't be made
-    pub at_tree : IfSome created (λ held. IsTreeLeft search given asked.tree held mid)
+    pub at_tree : IfSome created (λ held. IsTreeLeft now asked.tree held mid)
         → IfSome before (λ held. IsStopped asked held mid)
     at_tree left =
-        stopped asked job allowed before mid due (left_tree asked job allowed valid found given chosen before mid mid due
-        (subst (λ (f : Option Files). IfSome f (λ held. IsTreeLeft due_search given asked.tree held mid)) same
-        (subst (λ (s : SearchView). IfSome created (λ held. IsTreeLeft s given asked.tree held mid)) is left)))
-
-    stored_is : (done : DoneView) → IfSome created (λ held. IsTreeStored search given asked.tree held mid done)
-        → IfSome before (λ held. IsTreeStored due_search given asked.tree held mid done)
-    stored_is done stored =
-        subst (λ (f : Option Files). IfSome f (λ held. IsTreeStored due_search given asked.tree held mid done))
-        same
-        (subst (λ (s : SearchView). IfSome created (λ held. IsTreeStored s given asked.tree held mid done)) is
-        stored)
+        stopped mid (by before due (subst (λ (f : Option Files). IfSome f (λ held. IsTreeLeft now asked.tree held mid)) same left))
+      where
+        by : (files : Option Files) → ComesTo (own_job_due asked.inputs.own) asked.inputs files (Ok job)
+            → IfSome files (λ held. IsTreeLeft now asked.tree held mid)
+            → IfSome files (λ held. IsLeft asked held mid)
+        by None due_is left = tt
+        by (Some held) due_is (inl same) = inl same
+        by (Some held) due_is (inr stored) = inr (searched held stored.0 due_is stored.1, inl stored.1.files)
 
     -- the plan's file couldn't be made
-    pub at_plan : (done : DoneView)
-        → IfSome created (λ held. IsTreeStored search given asked.tree held mid done)
-        → IfSome mid (λ held. (after ≡ Some held)
-        ⊎ (after ≡ Some (with_plan held asked.plan job.inst done.best)))
+    pub at_plan : (done : DoneView) → IfSome created (λ held. IsTreeStored now asked.tree held mid done)
+        → IfSome mid (λ held. (after ≡ Some held) ⊎ (after ≡ Some (with_plan held asked.plan job.inst done.best)))
         → IfSome before (λ held. IsStopped asked held after)
     at_plan done stored left =
-        stopped asked job allowed before after due
-        (left_plan asked job allowed valid found given chosen before mid after due done (stored_is done stored) left)
+        stopped after (by before due
+        (subst (λ (f : Option Files). IfSome f (λ held. IsTreeStored now asked.tree held mid done)) same stored))
+      where
+        by : (files : Option Files) → ComesTo (own_job_due asked.inputs.own) asked.inputs files (Ok job)
+            → IfSome files (λ held. IsTreeStored now asked.tree held mid done)
+            → IfSome files (λ held. IsLeft asked held after)
+        by None due_is stored = tt
+        by (Some held) due_is stored = inr (
+          searched held done due_is stored,
+          over (λ files. (after ≡ Some files) ⊎ (after ≡ Some (with_plan files asked.plan job.inst done.best))) _
+              stored.files left,
+        )
 
-    -- both were made
+    -- both were made, and the answer tells of the search
     pub at_end : (done : DoneView) (a : PlanAnswer)
-        → IfSome created (λ held. IsTreeStored search given asked.tree held mid done)
-        → IfSome mid (λ held. after ≡ Some (with_plan held asked.plan job.inst done.best))
-        → Tells job.inst done a
+        → IfSome created (λ held. IsTreeStored now asked.tree held mid done)
+        → IfSome mid (λ held. after ≡ Some (with_plan held asked.plan job.inst done.best)) → Tells job.inst done a
         → IfSome before (λ held. IsWritten asked held after a)
     at_end done a stored wrote told =
-        both_written asked job allowed valid found given chosen before mid after due done a
-        (stored_is done stored) wrote told
+        by before due (subst (λ (f : Option Files). IfSome f (λ held. IsTreeStored now asked.tree held mid done)) same stored)
+      where
+        by : (files : Option Files) → ComesTo (own_job_due asked.inputs.own) asked.inputs files (Ok job)
+            → IfSome files (λ held. IsTreeStored now asked.tree held mid done)
+            → IfSome files (λ held. IsWritten asked held after a)
+        by None due_is stored = tt
+        by (Some held) due_is stored = record {
+          search = searched held done due_is stored;
+          told = told;
+          files = over (λ files. after ≡ Some (with_plan files asked.plan job.inst done.best)) _ stored.files wrote;
+        }
+
+-- cranes may follow what they may follow as it is seen
+so_allowed : (t : Turn) (inst : InstanceView) (sched : List Slot) (way : Direction) → IsSeenSo t inst sched way
+    → IsAllowedBy t inst sched
+so_allowed turn.OneWay inst sched Up seen = inl seen
+so_allowed turn.OneWay inst sched Down seen = inr seen.0
+so_allowed turn.Free inst sched way seen = seen.0
+
+pub seen_allowed : (inst : InstanceView) (way : Direction) (own : Option (List Slot))
+    → IfSome own (λ sched. IsSeenSo inst.turn inst sched way) → IfSome own (IsAllowed inst)
+seen_allowed inst way None seen = tt
+seen_allowed inst way (Some sched) seen = so_allowed inst.turn inst sched way seen
 
 -- the planner's own plan was read, and breaks a rule
 pub own_broken : (asked : Planning) (names : Names) (before after : View) (job : OwnJob) (told : Broken)

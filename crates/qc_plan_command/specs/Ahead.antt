@@ -2,18 +2,19 @@
 use Rattle.std.specs.Prelude.{◌≡◌, IfSome}
 use Rattle.qc_model.specs.declared.turn.Turn.TheVariants as turn
 use Rattle.qc_model.specs.Instance.{InstanceView, with_turn}
+use Rattle.qc_model.specs.Judge.{IsJudgeable}
+use Rattle.qc_starts.specs.Tight.{IsSeenSo}
+use Rattle.qc_sweep.specs.declared.going.Going.{Going}
 use Rattle.qc_sweep.specs.Plans.{IsFirstPlan}
 use Rattle.qc_plan_command.specs.declared.ahead.Ahead.{Ahead}
 use Rattle.qc_plan_command.specs.declared.ahead.Ahead.TheVariants as ahead
-use Rattle.qc_plan_command.specs.declared.ahead.OneWaySearch.{OneWaySearch}
 
--- the search is one of its instance, whose cranes go one way
-pub record IsOneWaySearch (one : OneWaySearch) : Type 0 where
-  pub one_way : one.inst.turn ≡ turn.OneWay
-  pub search_is : one.search.inst ≡ one.inst
-  pub swept : IfSome one.swept (IsFirstPlan one.inst)
+-- the schedule can be judged, and cranes may follow it as it is seen
+pub record IsGoing (inst : InstanceView) (going : Going) : Type 0 where
+  pub judgeable : IsJudgeable inst going.sched
+  pub seen : IsSeenSo inst.turn inst going.sched going.way
 
 -- it is for this instance
 abbrev pub IsAhead : InstanceView → Ahead → Type 0
 IsAhead inst (ahead.Swept found) = (inst.turn ≡ turn.OneWay) × IfSome found (IsFirstPlan inst)
-IsAhead inst (ahead.OneWay one) = (one.inst ≡ with_turn inst turn.OneWay) × IsOneWaySearch one
+IsAhead inst (ahead.OneWay search) = (inst.turn ≡ turn.Free) × (search.inst ≡ with_turn inst turn.OneWay)

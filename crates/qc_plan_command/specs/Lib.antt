@@ -3,7 +3,6 @@ pub mod Rooms
 pub mod Ahead
 pub mod Opened
 pub mod Found
-pub mod Chosen
 pub mod Reports
 pub mod Lines
 pub mod Account

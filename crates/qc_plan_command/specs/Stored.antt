@@ -4,7 +4,7 @@ use Rattle.qc_io.specs.Outside.{View}
 use Rattle.qc_model.specs.Instance.{InstanceView}
 use Rattle.qc_model.specs.Judge.{IsJudgeable}
 use Rattle.qc_search.specs.Run.{DoneView}
-use Rattle.qc_starts.specs.Tight.{IsTight}
+use Rattle.qc_starts.specs.Tight.{IsAllowedSo, IsTight}
 use Rattle.qc_store.specs.Outcome.{IsReread}
 use Rattle.qc_tree.specs.Trees.{NoneEarlier}
 use Rattle.qc_plan_command.specs.declared.answer.PlanAnswer.{PlanAnswer}
@@ -18,6 +18,7 @@ pub record IsStored (asked : Planning) (before after : View) (inst : InstanceVie
   pub none_earlier : NoneEarlier inst done.bound
   pub judgeable : IfSome done.best (IsJudgeable inst)
   pub tight : IfSome done.best (IsTight inst)
+  pub goes : IfSome done.best (λ sched. IsAllowedSo inst.turn inst sched done.way)
   pub reread : IfSome done.best (IsReread inst)
   pub told : (a : PlanAnswer) → Tells inst done a → IsPlanning asked before after (Ok a)
 

@@ -1,68 +1,84 @@
-//! The plan that is found ahead of a search, which begins with it or with the planner's own.
-ghost use Rattle.std.specs.Prelude.{◌≡◌, ◌≤◌, IfOk, IfSome};
+//! The plan that is found ahead of a search, which is offered it.
+ghost use Rattle.std.specs.Prelude.{◌≡◌, ◌≤◌, IfOk, IfSome, List, Option};
+ghost use Rattle.qc_model.specs.declared.schedule.Slot.{Slot};
 ghost use Rattle.qc_model.specs.declared.turn.Turn.TheVariants.{OneWay};
 ghost use Rattle.qc_model.specs.Instance.{with_turn};
 ghost use Rattle.qc_model.specs.Judge.{IsJudgeable};
 ghost use Rattle.qc_model.specs.Numbers.{most_branchings};
-ghost use Rattle.qc_model.specs.OneWay.{GoesOneWay, IsAllowed};
-ghost use Rattle.qc_plan_command.specs.Ahead.{IsAhead, IsOneWaySearch};
+ghost use Rattle.qc_plan_command.specs.Ahead.{IsAhead, IsGoing};
+ghost use Rattle.qc_store.specs.Outcome.{WasOffered};
 
-use crate::given::earlier;
 use crate::nowhere::Nowhere;
-use qc_io::WriteFault;
+use crate::way::way_of;
 use qc_model::{Instance, Schedule, Turn, copy, direction_of};
 use qc_num::OutOfMemory;
-use qc_run::broken_by;
 use qc_search::Search;
 use qc_store::EFFORT;
-use qc_sweep::first_plan;
+use qc_sweep::{Going, first_plan};
 use std::alloc::Global;
-
-/// A search for a plan that goes one way, whose tree is kept nowhere.
-#[derive(Drop)]
-pub(crate) struct OneWaySearch {
-    /// The instance, whose cranes go one way.
-    pub(crate) inst: Instance,
-    /// What the sweeps found.
-    pub(crate) swept: Option<Schedule>,
-    pub(crate) search: Search,
-}
 
 /// What is known ahead of a search, or is to be searched ahead of it. All memory is taken.
 #[derive(Drop)]
 pub(crate) enum Ahead {
     /// Where cranes go one way: what the sweeps found.
-    Swept(Option<Schedule>),
+    Swept(Option<Going>),
     /// Where they go as they like: a search for a plan that goes one way.
-    OneWay(OneWaySearch),
+    OneWay(Search),
 }
 
-/// A search for a plan that goes one way, with at most so many branchings.
-fn one_way_search(alloc: Global, inst: &Instance, nodes: u32) -> Result<OneWaySearch, OutOfMemory>
-    requires { nodes ≤ most_branchings }
-    ensures inst { IfOk result (λ one. one.inst ≡ with_turn inst.now OneWay) }
-    ensures is { IfOk result IsOneWaySearch }
+/// Offers a search for a plan that goes one way the planner's own, where that goes one way.
+fn offer_own(search: &mut Search, inst: &Instance, own: Option<&Schedule>)
+    requires inst { search.old.inst ≡ inst.now }
+    requires one_way { inst.now.turn ≡ OneWay }
+    requires own { IfSome own (λ sched. IsJudgeable inst.now sched.now) }
+    ensures { search.new.inst ≡ search.old.inst }
+{
+    if let Some(sched) = own {
+        if let Ok(way) = direction_of(inst, sched) {
+            search.offer(sched, way);
+        }
+    }
+}
+
+/// A search for a plan that goes one way, with at most so many branchings. It is offered the planner's own, where that
+/// goes one way, and what sweeps find.
+fn one_way_search(
+    alloc: Global,
+    inst: &Instance,
+    own: Option<&Schedule>,
+    nodes: u32,
+) -> Result<Search, OutOfMemory>
+    requires nodes { nodes ≤ most_branchings }
+    requires own { IfSome own (λ sched. IsJudgeable inst.now sched.now) }
+    ensures { IfOk result (λ search. search.inst ≡ with_turn inst.now OneWay) }
 {
     let inst = copy(alloc, inst)?.with_turn(Turn::OneWay);
+    let Ok(mut search) = Search::open(alloc, &inst, nodes) else {
+        drop(inst);
+        return Err(OutOfMemory);
+    };
+    offer_own(&mut search, &inst, own);
     let Ok(swept) = first_plan(alloc, &inst, EFFORT) else {
+        drop(search);
         drop(inst);
         return Err(OutOfMemory);
     };
-    let Ok(search) = Search::open(alloc, &inst, nodes) else {
-        drop(swept);
-        drop(inst);
-        return Err(OutOfMemory);
-    };
-    Ok(OneWaySearch {
-        inst,
-        swept,
-        search,
-    })
+    if let Some(found) = swept {
+        search.offer(&found.sched, found.way);
+    }
+    Ok(search)
 }
 
-/// What is known or to be searched ahead of a search with at most so many branchings.
-pub(crate) fn ahead_of(alloc: Global, inst: &Instance, nodes: u32) -> Result<Ahead, OutOfMemory>
-    requires { nodes ≤ most_branchings }
+/// What is known or to be searched ahead of a search with at most so many branchings; the planner's own takes part in a
+/// search for one that goes one way.
+pub(crate) fn ahead_of(
+    alloc: Global,
+    inst: &Instance,
+    own: Option<&Schedule>,
+    nodes: u32,
+) -> Result<Ahead, OutOfMemory>
+    requires nodes { nodes ≤ most_branchings }
+    requires own { IfSome own (λ sched. IsJudgeable inst.now sched.now) }
     ensures { IfOk result (IsAhead inst.now) }
 {
     match inst.turn() {
@@ -71,76 +87,49 @@ pub(crate) fn ahead_of(alloc: Global, inst: &Instance, nodes: u32) -> Result<Ahe
             Ok(Ahead::Swept(swept))
         }
         Turn::Free => {
-            let search = one_way_search(alloc, inst, nodes)?;
+            let search = one_way_search(alloc, inst, own, nodes)?;
             Ok(Ahead::OneWay(search))
         }
     }
 }
 
-/// The schedule, where it goes one way.
-fn one_way_of<'a>(inst: &Instance, own: Option<&'a Schedule>) -> Option<&'a Schedule>
-    requires { IfSome own (λ sched. IsJudgeable inst.now sched.now) }
-    ensures judgeable { IfSome result (λ sched. IsJudgeable inst.now sched.now) }
-    ensures goes { IfSome result (λ sched. GoesOneWay inst.now sched.now) }
+/// The best plan that a search for one that goes one way knows at its end, where the cranes of the instance
+/// may follow it.
+fn best_of(search: Search, inst: &Instance) -> Option<Going>
+    requires { search.inst ≡ with_turn inst.now OneWay }
+    ensures { IfSome result (IsGoing inst.now) }
 {
-    match own {
-        Some(sched) => match direction_of(inst, sched) {
-            Ok(_) => Some(sched),
-            Err(_) => None,
-        },
-        None => None,
-    }
-}
-
-impl OneWaySearch {
-    /// The best plan that the search knows at its end. It begins with the planner's own, where that goes one way, or
-    /// with what the sweeps found.
-    fn best(self, own: Option<&Schedule>) -> Option<Schedule>
-        requires is { IsOneWaySearch self }
-        requires own { IfSome own (λ sched. IsJudgeable self.inst sched.now) }
-        ensures { IfSome result (IsJudgeable self.inst) }
-    {
-        let OneWaySearch {
-            inst,
-            swept,
-            mut search,
-        } = self;
-        let own = one_way_of(&inst, own);
-        let given = earlier(&mut search, &inst, own, swept.as_ref());
-        let best = match search.run(given, &mut Nowhere) {
-            Ok(done) => done.into_best(),
-            Err(WriteFault) => None,
-        };
-        drop(swept);
-        drop(inst);
-        best
-    }
-}
-
-/// The schedule, where the cranes of the instance may follow it.
-fn allowed(inst: &Instance, sched: Schedule) -> Option<Schedule>
-    requires { IsJudgeable inst.now sched }
-    ensures judgeable { IfSome result (IsJudgeable inst.now) }
-    ensures allowed { IfSome result (IsAllowed inst.now) }
-{
-    match broken_by(inst.turn(), inst, &sched) {
-        None => Some(sched),
-        Some(_) => None,
+    let Ok(done) = search.run(&mut Nowhere) else {
+        return None;
+    };
+    let sched = done.into_best()?;
+    match way_of(inst, &sched) {
+        Ok(way) => Some(Going { sched, way }),
+        Err(_) => None,
     }
 }
 
 impl Ahead {
-    /// The plan that is found ahead of the search of this instance, if any is; the planner's own takes part in a search
-    /// for one that goes one way.
-    pub(crate) fn found(self, inst: &Instance, own: Option<&Schedule>) -> Option<Schedule>
-        requires ahead { IsAhead inst.now self }
-        requires own { IfSome own (λ sched. IsJudgeable inst.now sched.now) }
-        ensures judgeable { IfSome result (IsJudgeable inst.now) }
-        ensures allowed { IfSome result (IsAllowed inst.now) }
+    /// The plan that is found ahead of the search of this instance, if any is.
+    fn found(self, inst: &Instance) -> Option<Going>
+        requires { IsAhead inst.now self }
+        ensures { IfSome result (IsGoing inst.now) }
     {
         match self {
-            Ahead::Swept(swept) => swept,
-            Ahead::OneWay(search) => allowed(inst, search.best(own)?),
+            Ahead::Swept(found) => found,
+            Ahead::OneWay(search) => best_of(search, inst),
+        }
+    }
+
+    /// Offers that plan to the search.
+    pub(crate) fn offer_to(self, inst: &Instance, search: &mut Search)
+        requires ahead { IsAhead inst.now self }
+        requires inst { search.old.inst ≡ inst.now }
+        ensures stays { search.new ≡ record search.old { first = search.new.first } }
+        ensures offered { (found : Option (List Slot)) × WasOffered inst.now found search.old.first search.new.first }
+    {
+        if let Some(found) = self.found(inst) {
+            search.offer(&found.sched, found.way);
         }
     }
 }

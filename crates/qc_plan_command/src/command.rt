@@ -1,18 +1,15 @@
 //! The command that plans.
-ghost use Rattle.std.specs.Prelude.{◌≡◌, ◌≤◌, IfOk, IfSome, IsSomeAnd, None, Ok, OnErr, option_map};
+ghost use Rattle.std.specs.Prelude.{◌≡◌, ◌≤◌, IfOk, IfSome, Ok, OnErr};
 ghost use Rattle.qc_io.specs.Writes.{Counts};
 ghost use Rattle.qc_model.specs.Instance.{Valid};
-ghost use Rattle.qc_model.specs.Judge.{IsJudgeable};
 ghost use Rattle.qc_model.specs.Numbers.{most_branchings};
 ghost use Rattle.qc_model.specs.OneWay.{IsAllowed};
-ghost use Rattle.qc_run.specs.Broken.{TellsBreakBy};
 ghost use Rattle.qc_run.specs.Due.{own_job_due};
 ghost use Rattle.qc_run.specs.Steps.{ComesTo};
 ghost use Rattle.qc_plan_command.specs.Account.{IsPlanRun, IsPlanning};
 ghost use Rattle.qc_plan_command.specs.Ahead.{IsAhead};
 ghost use Rattle.qc_plan_command.specs.Asked.{planning};
-ghost use Rattle.qc_plan_command.specs.Chosen.{IsChosenSearch};
-ghost use Rattle.qc_plan_command.specs.Opened.{IsOpened};
+ghost use Rattle.qc_plan_command.specs.Opened.{IsOpened, IsSearchFor, WasRun, search_from};
 ghost use Rattle.qc_plan_command.specs.Promises.{PlanPromises};
 ghost use Rattle.qc_plan_command.specs.Reports.{CanBeTold};
 ghost use Rattle.qc_plan_command.specs.Stored.{IsCut, IsStored};
@@ -21,62 +18,51 @@ use crate::ahead::Ahead;
 use crate::answer::PlanAnswer;
 use crate::asked::PlanAsked;
 use crate::found::answer_of;
-use crate::given::earlier;
 use crate::opened::{Opened, open_for};
-use crate::outlook::tell;
 use crate::report::report;
+use crate::way::own_way;
 use qc_io::{Shelf, Sink, WriteFault};
-use qc_model::{Instance, Schedule};
-use qc_num::Tick;
-use qc_run::{Broken, OwnJob, Status, Stop, broken_by, broken_of, read_own_job, report_stop};
+use qc_model::Instance;
+use qc_run::{OwnJob, Status, Stop, read_own_job, report_stop};
 use qc_search::{Done, Search};
 use qc_store::{store_best, store_tree};
 use std::alloc::Global;
 
-/// Runs the search and makes the tree's file. Where cranes may follow a schedule of the planner's own, the search begins
-/// with it, or with one that is found ahead of it and that ends earlier. Whoever waits is told what is known, before
-/// anything is found and before the search.
+/// Runs the search and makes the tree's file. Where a schedule is found ahead of it, it is offered that. Whoever waits is
+/// told what is known, before anything is found and before the search.
 fn run_search<S: Shelf>(
     asked: &PlanAsked<'_>,
     inst: &Instance,
-    own: Option<&Schedule>,
     ahead: Ahead,
     mut search: Search,
-    bound: Option<Tick>,
     shelf: &mut S,
 ) -> Result<Done, WriteFault>
-    requires search { search ≡ record { inst = inst.now; nodes = asked.now.nodes } }
-    requires judgeable { IfSome own (λ sched. IsJudgeable inst.now sched.now) }
-    requires allowed { IfSome own (λ sched. IsAllowed inst.now sched.now) }
+    requires search { search ≡ search_from inst.now asked.now.nodes search.first }
     requires ahead { IsAhead inst.now ahead }
-    ensures searched { IsChosenSearch (record { inst = inst.now; nodes = asked.now.nodes })
-        (option_map (λ sched. sched.now) own.entry) asked.now.tree.now
+    ensures searched { WasRun inst.now asked.now.nodes search.first asked.now.tree.now
         (S.Sink.view shelf.old).files (S.Sink.view shelf.new).files result }
     ensures counts { Counts (S.Sink.view shelf.old).faults (S.Sink.view shelf.new).faults result }
     ensures read_faults { (S.Sink.view shelf.new).read_faults ≡ (S.Sink.view shelf.old).read_faults }
 {
-    tell(&mut search, own, asked.nodes, bound, shelf);
-    let found = ahead.found(inst, own);
-    let given = earlier(&mut search, inst, own, found.as_ref());
-    tell(&mut search, given, asked.nodes, bound, shelf);
-    store_tree(search, given, asked.tree, shelf)
+    shelf.tell(search.outlook());
+    ahead.offer_to(inst, &mut search);
+    shelf.tell(search.outlook());
+    store_tree(search, asked.tree, shelf)
 }
 
 /// Runs the search, and writes its tree and the plan of the best schedule that it knows. The plan's file is begun first,
-/// so that one that can't be made is told before any search is run; the bound is only told to whoever waits.
+/// so that one that can't be made is told before any search is run.
 fn store_search<S: Shelf>(
     asked: &PlanAsked<'_>,
     job: &OwnJob,
     ahead: Ahead,
     search: Search,
-    bound: Option<Tick>,
     shelf: &mut S,
 ) -> Result<Done, WriteFault>
     requires valid { Valid job.now.inst }
-    requires search { search ≡ record { inst = job.now.inst; nodes = asked.now.nodes } }
+    requires search { IsSearchFor job.now.inst asked.now.nodes job.now.own search }
     requires due { ComesTo (own_job_due (planning asked.now).inputs.own) (planning asked.now).inputs
         (S.Sink.view shelf.old).files (Ok job.now) }
-    requires judgeable { IfSome job.now.own (IsJudgeable job.now.inst) }
     requires allowed { IfSome job.now.own (IsAllowed job.now.inst) }
     requires ahead { IsAhead job.now.inst ahead }
     ensures stored { IfOk result
@@ -90,17 +76,7 @@ fn store_search<S: Shelf>(
         drop(search);
         return Err(WriteFault);
     }
-    let Ok(done) = run_search(
-        asked,
-        &job.inst,
-        job.own.as_ref(),
-        ahead,
-        search,
-        bound,
-        shelf,
-    ) else {
-        return Err(WriteFault);
-    };
+    let done = run_search(asked, &job.inst, ahead, search, shelf)?;
     match store_best(&job.inst, &done, asked.plan, shelf) {
         Ok(()) => Ok(done),
         Err(WriteFault) => {
@@ -117,10 +93,9 @@ fn plan_job<S: Shelf>(
     opened: Opened,
     shelf: &mut S,
 ) -> PlanAnswer
-    requires opened { IsOpened job.inst asked.now.nodes opened }
+    requires opened { IsOpened job.inst asked.now.nodes job.own opened }
     requires due { ComesTo (own_job_due (planning asked.now).inputs.own) (planning asked.now).inputs
         (S.Sink.view shelf.old).files (Ok job) }
-    requires judgeable { IfSome job.own (IsJudgeable job.inst) }
     requires allowed { IfSome job.own (IsAllowed job.inst) }
     ensures serves { IsPlanning (planning asked.now) (S.Sink.view shelf.old) (S.Sink.view shelf.new) (Ok result) }
     ensures ready { CanBeTold result }
@@ -130,9 +105,8 @@ fn plan_job<S: Shelf>(
         room,
         ahead,
         search,
-        bound,
     } = opened;
-    let Ok(done) = store_search(asked, &job, ahead, search, bound, shelf) else {
+    let Ok(done) = store_search(asked, &job, ahead, search, shelf) else {
         drop(room);
         drop(job);
         return PlanAnswer::WriteFault;
@@ -140,22 +114,6 @@ fn plan_job<S: Shelf>(
     let OwnJob { inst, own } = job;
     drop(own);
     answer_of(inst, done, room)
-}
-
-/// What is told of the planner's own schedule where it breaks a rule; none where cranes may follow it or there is none.
-fn break_of(job: &OwnJob) -> Option<Broken>
-    requires { IfSome job.now.own (IsJudgeable job.now.inst) }
-    ensures none { result ≡ None → IfSome job.now.own (IsAllowed job.now.inst) }
-    ensures some { IfSome result (λ told. IsSomeAnd job.now.own
-        (λ sched. TellsBreakBy job.now.inst.turn job.now.inst sched told)) }
-{
-    match &job.own {
-        None => None,
-        Some(sched) => match broken_by(job.inst.turn(), &job.inst, sched) {
-            None => None,
-            Some(broken) => Some(broken_of(&job.inst, broken)),
-        },
-    }
 }
 
 /// Reads the ship file and the stowage list, and the planner's own plan where one is named, which cranes must be able
@@ -169,11 +127,14 @@ fn serve<S: Shelf>(alloc: Global, asked: &PlanAsked<'_>, shelf: &mut S) -> Resul
     ensures reads_never_fall { (S.Sink.view shelf.old).read_faults ≤ (S.Sink.view shelf.new).read_faults }
 {
     let job = read_own_job(alloc, &asked.inputs(), shelf)?;
-    if let Some(broken) = break_of(&job) {
-        drop(job);
-        return Ok(PlanAnswer::Broken(broken));
-    }
-    let Ok(opened) = open_for(alloc, &job.inst, asked.nodes) else {
+    let way = match own_way(&job) {
+        Ok(way) => way,
+        Err(broken) => {
+            drop(job);
+            return Ok(PlanAnswer::Broken(broken));
+        }
+    };
+    let Ok(opened) = open_for(alloc, &job.inst, job.own.as_ref(), way, asked.nodes) else {
         drop(job);
         return Err(Stop::OutOfMemory);
     };

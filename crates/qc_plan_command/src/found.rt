@@ -1,7 +1,7 @@
 //! What is told of a search.
 ghost use Rattle.std.specs.Prelude.{IfSome, length};
 ghost use Rattle.qc_model.specs.Judge.{IsJudgeable};
-ghost use Rattle.qc_starts.specs.Tight.{IsTight};
+ghost use Rattle.qc_starts.specs.Tight.{IsAllowedSo, IsTight};
 ghost use Rattle.qc_tree.specs.Trees.{NoneEarlier};
 ghost use Rattle.qc_store.specs.Outcome.{IsReread};
 ghost use Rattle.qc_plan_command.specs.Found.{Tells};
@@ -19,6 +19,7 @@ pub(crate) fn answer_of(inst: Instance, done: Done, room: Room) -> PlanAnswer
     requires none_earlier { NoneEarlier inst done.bound }
     requires judgeable { IfSome done.best (IsJudgeable inst) }
     requires tight { IfSome done.best (IsTight inst) }
+    requires goes { IfSome done.best (λ sched. IsAllowedSo inst.turn inst sched done.way) }
     requires reread { IfSome done.best (IsReread inst) }
     requires room { IsRoom inst.turn (length inst.tasks) room }
     ensures tells { Tells inst done result }
@@ -32,13 +33,13 @@ pub(crate) fn answer_of(inst: Instance, done: Done, room: Room) -> PlanAnswer
         drop(inst);
         return PlanAnswer::Infeasible { branched };
     };
-    let given = done.given();
+    let (given, way) = (done.given(), done.way());
     let Some(sched) = done.into_best() else {
         drop(room);
         drop(inst);
         return PlanAnswer::Unplanned { bound, branched };
     };
-    let motion = motion_of(&inst, &sched, room);
+    let motion = motion_of(&inst, &sched, way, room);
     PlanAnswer::Planned(Planned {
         kind,
         end: ends(&inst, &sched),

@@ -11,12 +11,11 @@ mod answer;
 mod asked;
 mod command;
 mod found;
-mod given;
 mod nowhere;
 mod opened;
-mod outlook;
 mod report;
 mod room;
+mod way;
 
 pub use answer::{Motion, PlanAnswer, Planned};
 pub use asked::PlanAsked;

@@ -1,13 +1,14 @@
-//! What is taken for a search and what is told of it, before anything is written.
-ghost use Rattle.std.specs.Prelude.{◌≤◌, IfOk};
+//! What is taken for a search, before anything is written.
+ghost use Rattle.std.specs.Prelude.{◌≤◌, IfOk, IfSome, option_map};
+ghost use Rattle.qc_model.specs.Judge.{IsJudgeable};
 ghost use Rattle.qc_model.specs.Numbers.{most_branchings};
-ghost use Rattle.qc_plan_command.specs.Opened.{IsOpened};
+ghost use Rattle.qc_plan_command.specs.Opened.{IsOpened, IsSearchFor};
+ghost use Rattle.qc_starts.specs.Tight.{IsSeenSo};
 
 use crate::ahead::{Ahead, ahead_of};
-use crate::outlook::root_bound;
 use crate::room::{Room, room_for};
-use qc_model::Instance;
-use qc_num::{OutOfMemory, Tick};
+use qc_model::{Direction, Instance, Schedule};
+use qc_num::OutOfMemory;
 use qc_search::Search;
 use std::alloc::Global;
 
@@ -17,30 +18,55 @@ pub(crate) struct Opened {
     pub(crate) room: Room,
     pub(crate) ahead: Ahead,
     pub(crate) search: Search,
-    /// An end that no plan comes before, where there was memory to find one.
-    pub(crate) bound: Option<Tick>,
 }
 
-/// What a plan of the instance takes, with at most so many branchings.
-pub(crate) fn open_for(alloc: Global, inst: &Instance, nodes: u32) -> Result<Opened, OutOfMemory>
-    requires { nodes ≤ most_branchings }
-    ensures { IfOk result (IsOpened inst.now nodes) }
+/// A search with at most so many branchings, which is offered the planner's own schedule, if there is one, as it is seen
+/// that way.
+fn search_for(
+    alloc: Global,
+    inst: &Instance,
+    own: Option<&Schedule>,
+    way: Direction,
+    nodes: u32,
+) -> Result<Search, OutOfMemory>
+    requires nodes { nodes ≤ most_branchings }
+    requires own { IfSome own (λ sched. IsJudgeable inst.now sched.now) }
+    requires seen { IfSome own (λ sched. IsSeenSo inst.now.turn inst.now sched.now way) }
+    ensures { IfOk result (IsSearchFor inst.now nodes (option_map (λ sched. sched.now) own.entry)) }
+{
+    let mut search = Search::open(alloc, inst, nodes)?;
+    if let Some(sched) = own {
+        search.offer(sched, way);
+    }
+    Ok(search)
+}
+
+/// What a plan of the instance takes, with at most so many branchings, where the planner has this schedule or none.
+pub(crate) fn open_for(
+    alloc: Global,
+    inst: &Instance,
+    own: Option<&Schedule>,
+    way: Direction,
+    nodes: u32,
+) -> Result<Opened, OutOfMemory>
+    requires nodes { nodes ≤ most_branchings }
+    requires own { IfSome own (λ sched. IsJudgeable inst.now sched.now) }
+    requires seen { IfSome own (λ sched. IsSeenSo inst.now.turn inst.now sched.now way) }
+    ensures { IfOk result (IsOpened inst.now nodes (option_map (λ sched. sched.now) own.entry)) }
 {
     let room = room_for(alloc, inst)?;
-    let Ok(ahead) = ahead_of(alloc, inst, nodes) else {
+    let Ok(ahead) = ahead_of(alloc, inst, own, nodes) else {
         drop(room);
         return Err(OutOfMemory);
     };
-    let Ok(search) = Search::open(alloc, inst, nodes) else {
+    let Ok(search) = search_for(alloc, inst, own, way, nodes) else {
         drop(ahead);
         drop(room);
         return Err(OutOfMemory);
     };
-    let bound = root_bound(alloc, inst).ok();
     Ok(Opened {
         room,
         ahead,
         search,
-        bound,
     })
 }

@@ -2,14 +2,15 @@
 ghost use Rattle.std.specs.Prelude.{length, IfOk};
 ghost use Rattle.qc_model.specs.Instance.{Valid};
 ghost use Rattle.qc_model.specs.Judge.{IsJudgeable};
-ghost use Rattle.qc_model.specs.OneWay.{IsAllowed};
 ghost use Rattle.qc_plan_command.specs.Found.{MovesSafely};
 ghost use Rattle.qc_plan_command.specs.Reports.{CanBeMoved};
 ghost use Rattle.qc_plan_command.specs.Rooms.{IsRoom};
+ghost use Rattle.qc_starts.specs.Tight.{IsAllowedSo};
 
 use crate::answer::Motion;
+use crate::way::direction_as;
 use qc_freemove::FreeTrack;
-use qc_model::{Instance, Schedule, Turn, direction_of};
+use qc_model::{Direction, Instance, Schedule, Turn};
 use qc_motion::Track;
 use qc_num::OutOfMemory;
 use std::alloc::Global;
@@ -44,20 +45,18 @@ pub(crate) fn room_for(alloc: Global, inst: &Instance) -> Result<Room, OutOfMemo
     room_of(alloc, inst.turn(), inst.task_count())
 }
 
-/// How the cranes of a schedule go that they may follow.
-pub(crate) fn motion_of(inst: &Instance, sched: &Schedule, room: Room) -> Motion
+/// How the cranes of a schedule go that they may follow as it is seen that way.
+pub(crate) fn motion_of(inst: &Instance, sched: &Schedule, way: Direction, room: Room) -> Motion
     requires valid { Valid inst.now }
     requires judgeable { IsJudgeable inst.now sched.now }
-    requires allowed { IsAllowed inst.now sched.now }
+    requires goes { IsAllowedSo inst.now.turn inst.now sched.now way }
     requires room { IsRoom inst.now.turn (length inst.now.tasks) room }
     ensures safe { MovesSafely inst.now.turn inst.now sched.now result }
     ensures ready { CanBeMoved inst.now sched.now result }
 {
     match room {
         Room::OneWay(track) => {
-            let Ok(direction) = direction_of(inst, sched) else {
-                unreachable!()
-            };
+            let direction = direction_as(inst, sched, way);
             Motion::OneWay { direction, track }
         }
         Room::Free(track) => Motion::Free { track },

@@ -1,9 +1,11 @@
--- A given schedule, its tight form, and the search that begins with it.
-use Rattle.std.proofs.Common.{◌≡◌, ℕ, zero, suc, ◌+◌, ◌<◌, ◌≤◌, inl, inr, List, [], ◌∷◌, ◌++◌, length, map, Contains, Option, None, Some, IfSome, IsSome, refl, ap, ap₂, sym, subst, ◌∙◌, arith, nat_le}
+-- A schedule that is offered, its tight form, and the search that begins with it.
+use Rattle.std.proofs.Common.{◌≡◌, ℕ, zero, suc, ◌+◌, ◌<◌, ◌≤◌, inl, inr, List, [], ◌∷◌, ◌++◌, length, map, Contains, Option, None, Some, IfSome, IsSome, IsSomeAnd, refl, ap, ap₂, sym, subst, ◌∙◌, arith, nat_le}
 use Rattle.std.proofs.lemmas.Bool.{cond-true, cond_both, false≢true, le-leb, leb-true}
 use Rattle.std.specs.List.{range_with_len}
 use Rattle.smallvec.specs.SmallVec.{SmallVec}
-use Rattle.qc_num.specs.declared.bound.Bound.TheVariants.{Least}
+use Rattle.qc_num.specs.declared.bound.Bound.{Bound}
+use Rattle.qc_num.specs.declared.bound.Bound.TheVariants.{Least, Never}
+use Rattle.qc_num.specs.Bounds.{IsAtMost}
 use Rattle.qc_num.specs.Paths.{HasRoom}
 use Rattle.qc_num.proofs.BoundLemmas.{same_least}
 use Rattle.qc_model.specs.declared.decision.Decision.{Decision}
@@ -18,7 +20,7 @@ use Rattle.qc_model.specs.Frames.{GoesBy}
 use Rattle.qc_model.specs.Instance.{InstanceView, Valid, ticks_of}
 use Rattle.qc_model.specs.Judge.{IsDirection, IsJudgeable}
 use Rattle.qc_model.specs.Nodes.{Agrees, AreLeast, IsSettled, Meets, assigned, forced, schedule_with}
-use Rattle.qc_model.specs.Numbers.{most_start, most_tasks}
+use Rattle.qc_model.specs.Numbers.{most_branchings, most_start, most_tasks}
 use Rattle.qc_model.specs.OneWay.{GoesUp}
 use Rattle.qc_model.specs.Rules.{Feasible, crane_of, end_of, ends, start_of, starts}
 use Rattle.qc_model.specs.Seen.{seen, seen_number, seen_schedule}
@@ -29,15 +31,15 @@ use Rattle.qc_model.proofs.NodeLemmas.{assigned_is, ends_by, meets_by, start_at}
 use Rattle.qc_model.proofs.TurnLemmas.{by_feasible, goes_by}
 use Rattle.qc_model.proofs.SeenLemmas.{seen-crane_count, seen-crane_of, seen-ends, seen-start_of, seen-task_count}
 use Rattle.qc_starts.specs.Seen.{AreAssigned}
-use Rattle.qc_starts.specs.Tight.{IsSeenSo, IsTight, IsTightForm, decided_by, order_in, ordered_pairs}
+use Rattle.qc_starts.specs.Tight.{IsSeenSo, IsTightForm, decided_by, order_in, ordered_pairs}
 use Rattle.qc_search.specs.declared.progress.Progress.{Progress}
 use Rattle.qc_search.specs.Earned.{IsKnownEnd, node_at}
-use Rattle.qc_search.specs.Progress.{AreOrdered, IsBegun, IsBegunWith, IsKept, IsProgress, IsTightened, begun}
-use Rattle.qc_search.specs.Run.{IsTightEnd}
+use Rattle.qc_search.specs.Progress.{AreOrdered, Improves, IsBegun, IsBegunWith, IsKept, IsProgress, IsTightened, begun, known_best, shown_best}
+use Rattle.qc_search.specs.Run.{IsOffered, best_end}
 use Rattle.qc_search.proofs.DecidedLemmas.{decided_least}
 use Rattle.qc_search.proofs.PairLemmas.{Rises, ordered_rise, same_pairs}
-use Rattle.qc_search.proofs.ShownLemmas.{shown_tight, turned_as_met}
-use Rattle.qc_search.proofs.TightLemmas.{seen_end}
+use Rattle.qc_search.proofs.ShownLemmas.{turned_as_met}
+use Rattle.qc_search.proofs.TightLemmas.{best_end_is, seen_end}
 use Rattle.qc_tree.specs.Trees.{on_task}
 
 -- ---- the order of a pair
@@ -120,6 +122,12 @@ module _ (inst : InstanceView) (ds : List Decision) (v : Valid inst) (given : Ar
       ∙ same_orders pairs (λ p c. (ordered_rise inst v two p c, ordered p c)))
 
 -- ---- the tight form of a given schedule
+
+-- the incumbent is answered as it is seen
+shown_is : (home : InstanceView) (way : Direction) (end : ℕ) (kept : List Slot)
+    → shown_best (length home.cranes) (Least end) way kept ≡ Some (seen_schedule home kept way)
+shown_is home Up end kept = refl
+shown_is home Down end kept = refl
 
 -- a crane that is turned twice has its number again
 number_back : (home : InstanceView) (way : Direction) (k : ℕ) → k < length home.cranes
@@ -218,21 +226,12 @@ module _ (home : InstanceView) (v : Valid home) (given : List Slot) (way : Direc
       )) in
       omega (arith, late, t.ends, seen-ends home given way)
 
-  pub tight_end_is : IsSeenSo home.turn home given way → IsTightEnd home given end
-  tight_end_is direction = record {
-    first = form;
-    form = form_is direction;
-    is = end_is;
-    no_later = no_later;
-  }
-
   -- the progress that begins with it is that of no nodes
-  abbrev progress_of : ℕ → SmallVec ℕ → Progress
-  progress_of limit path = record (begun limit kept path) { incumbent_end = Least end; way = way }
+  abbrev progress_of : Progress → Progress
+  progress_of old = record old { incumbent_end = Least end; way = way; incumbent = kept }
 
-  abbrev first_kept : (home.turn ≡ Free → way ≡ Up) → (limit : ℕ) (path : SmallVec ℕ)
-      → IsKept home (Some form) (progress_of limit path) [] end
-  first_kept only_up limit path = record {
+  abbrev first_kept : (home.turn ≡ Free → way ≡ Up) → (old : Progress) → IsKept home (Some form) (progress_of old) [] end
+  first_kept only_up old = record {
     node = node_at way t.decisions (on_task 0);
     from = inr refl;
     begins = t.begins;
@@ -252,46 +251,41 @@ module _ (home : InstanceView) (v : Valid home) (given : List Slot) (way : Direc
     least = λ other k d low. absurd (omega (arith, low));
   }
 
-  first_progress : (home.turn ≡ Free → way ≡ Up) → (limit : ℕ) (path : SmallVec ℕ)
-      → IsProgress home (Some form) (progress_of limit path) []
-  first_progress only_up limit path = record {
-    few = omega arith;
-    branched = refl;
-    bound = refl;
+  first_progress : (home.turn ≡ Free → way ≡ Up) → (old : Progress) → IsBegun home old
+      → IsProgress home (Some form) (progress_of old) []
+  first_progress only_up old b = record {
+    few = b.progress.few;
+    branched = b.progress.branched;
+    bound = b.progress.bound;
     known = first_known;
     best = λ other e.
-        subst (IsKept home (Some form) (progress_of limit path) []) (same_least end other e)
-        (first_kept only_up limit path);
-    late = λ left. tt;
+        subst (IsKept home (Some form) (progress_of old) []) (same_least end other e) (first_kept only_up old);
+    late = λ left. subst (IsAtMost (Least end)) (sym b.bound) tt;
   }
 
-  pub begins_with : (limit : ℕ) (path : SmallVec ℕ) → IsSeenSo home.turn home given way → HasRoom most_tasks path
-      → IsBegun home (Some given) limit (progress_of limit path)
-  begins_with limit path direction room =
-      let only_up = so_only_up home given way direction in
-      record {
-        first = Some form;
-        begins = form_is direction;
-        tight = subst (λ (s : List Slot). IsTight home (seen_schedule home s way)) (sym t.is)
-            (shown_tight home (Some form) v (progress_of limit path) [] end (first_kept only_up limit path));
-        no_later = omega (arith, no_later, end_is);
-        progress = first_progress only_up limit path;
-        known = ap Least end_is;
-        limit_is = refl;
-        bound = refl;
-        count = kept_count;
-        room = room;
-      }
+  pub begins_with : (old : Progress) → IsSeenSo home.turn home given way → IsBegun home old
+      → IsBegun home (progress_of old)
+  begins_with old direction b = record {
+    progress = subst (λ (o : Option (List Slot)). IsProgress home o (progress_of old) [])
+        (sym (shown_is home way end kept)) (first_progress (so_only_up home given way direction) old b);
+    bound = b.bound;
+    count = kept_count;
+    room = b.room;
+    few = b.few;
+  }
 
--- where none is given, nothing is known before the first line
+  pub taken_with : IsSeenSo home.turn home given way
+      → IsSomeAnd (shown_best (length home.cranes) (Least end) way kept)
+      (λ first. IsTightForm home given first × (ends home first ≤ ends home given))
+  taken_with direction =
+      subst (λ (o : Option (List Slot)). IsSomeAnd o (λ first. IsTightForm home given first × (ends home first ≤ ends home given)))
+      (sym (shown_is home way end kept)) (form_is direction, omega (arith, no_later, end_is))
+
+-- before any is offered, nothing is known before the first line
 pub begins_without : (home : InstanceView) (limit : ℕ) (incumbent : List Slot) (path : SmallVec ℕ)
-    → length incumbent ≡ length home.tasks → HasRoom most_tasks path
-    → IsBegun home None limit (begun limit incumbent path)
-begins_without home limit incumbent path count room = record {
-  first = None;
-  begins = refl;
-  tight = tt;
-  no_later = tt;
+    → length incumbent ≡ length home.tasks → HasRoom most_tasks path → limit ≤ most_branchings
+    → IsBegun home (begun limit incumbent path)
+begins_without home limit incumbent path count room few = record {
   progress = record {
     few = omega arith;
     branched = refl;
@@ -304,11 +298,10 @@ begins_without home limit incumbent path count room = record {
     best = λ end e. absurd (cc e);
     late = λ left. tt;
   };
-  known = refl;
-  limit_is = refl;
   bound = refl;
   count = count;
   room = room;
+  few = few;
 }
 
 -- what goes one way in its direction goes up as it is seen there
@@ -340,11 +333,29 @@ seen_soon home given way judgeable j low =
     let here : j < length home.tasks = omega (arith, n, low) in
     omega (arith, seen-start_of home given way j (omega (arith, judgeable.all_tasks, here)), judgeable.start_range j here)
 
--- a search that begins with a schedule
-pub begun_with : (home : InstanceView) (v : Valid home) (given : List Slot) (limit : ℕ) (path : SmallVec ℕ) (now : Progress)
-    → IsJudgeable home given → IsBegunWith home given limit path now → HasRoom most_tasks path
-    → IsBegun home (Some given) limit now
-begun_with home v given limit path now judgeable b room =
-    subst (IsBegun home (Some given) limit) (sym b.is)
-    (begins_with home v given b.way now.incumbent b.end judgeable (goes_seen home given b.way b.direction) b.tightened limit
-    path b.direction room)
+-- ---- an offer
+
+improving : (end : ℕ) (known : Bound) → Improves end known → ¬ IsAtMost known (Least end)
+improving end Never sooner late = late
+improving end (Least least) sooner late = omega (arith, sooner, late)
+
+module _ (home : InstanceView) (given : List Slot) (old : Progress) (b : IsBegun home old) where
+  known_is : best_end home (known_best home old) ≡ old.incumbent_end
+  known_is = best_end_is home (known_best home old) old [] b.progress
+
+  -- the search begins with it where it ends before what the search began with
+  pub offer_taken : (v : Valid home) (way : Direction) (now : Progress) → IsJudgeable home given
+      → IsSeenSo home.turn home given way → Improves (ends home given) old.incumbent_end
+      → IsBegunWith home given way old now
+      → IsBegun home now × IsOffered home given (known_best home old) (known_best home now)
+  offer_taken v way now judgeable so sooner w =
+      let goes = goes_seen home given way so in
+      let there = subst (λ (e : Bound). ¬ IsAtMost e (Least (ends home given))) (sym known_is)
+      (improving (ends home given) old.incumbent_end sooner) in
+      subst (λ (p : Progress). IsBegun home p × IsOffered home given (known_best home old) (known_best home p)) (sym w.is) (
+        begins_with home v given way now.incumbent w.end judgeable goes w.tightened old so b,
+        record {
+          kept = λ late. absurd (there late);
+          taken = λ _. taken_with home v given way now.incumbent w.end judgeable goes w.tightened so;
+        },
+      )

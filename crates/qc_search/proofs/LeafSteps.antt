@@ -1,5 +1,5 @@
 -- Which leaves are steps, out of reach, closed or given up, and the lines of steps.
-use Rattle.std.proofs.Common.{◌≡◌, ℕ, ◌+◌, ◌<◌, ◌≤◌, ◌⊎◌, inl, inr, Bool, true, false, not, List, [], ◌∷◌, ◌++◌, Result, Option, None, Some, IsSome, unwrap_or, refl, ap, sym, subst, ◌∙◌, arith, is_some}
+use Rattle.std.proofs.Common.{◌≡◌, ℕ, ◌+◌, ◌<◌, ◌≤◌, ◌⊎◌, inl, inr, Bool, true, false, not, List, [], ◌∷◌, ◌++◌, Result, Ok, Err, Option, None, Some, IfOk, IsSome, unwrap_or, refl, ap, sym, subst, ◌∙◌, arith, is_some}
 use Rattle.std.proofs.lemmas.Bool.{cond-true}
 use Rattle.std.specs.Prelude.{⊤}
 use Rattle.qc_io.specs.declared.writing.WriteFault.{WriteFault}
@@ -8,6 +8,7 @@ use Rattle.qc_io.specs.Writes.{Writes}
 use Rattle.qc_num.specs.declared.bound.Bound.{Bound}
 use Rattle.qc_num.specs.declared.bound.Bound.TheVariants.{Least, Never}
 use Rattle.qc_num.specs.Bounds.{IsAtMost, lesser}
+use Rattle.qc_num.specs.Paths.{HasRoom}
 use Rattle.qc_num.proofs.BoundLemmas.{at_most_never, at_most_through, lesser_never}
 use Rattle.smallvec.specs.SmallVec.{SmallVec}
 use Rattle.qc_bounds.specs.declared.leaves.LeafKind.{LeafKind}
@@ -15,6 +16,7 @@ use Rattle.qc_bounds.specs.declared.leaves.LeafKind.TheVariants as kind
 use Rattle.qc_bounds.specs.Closed.{IsClosedBy, IsSpentBy}
 use Rattle.qc_bounds.proofs.ClosedLemmas.{never_out_of_reach, one_end}
 use Rattle.qc_dist.specs.Children.{behind, later}
+use Rattle.qc_dist.specs.Node.{Node}
 use Rattle.qc_model.specs.declared.decision.Decision.{Decision}
 use Rattle.qc_model.specs.declared.decision.Decision.TheVariants.{Assign, Order}
 use Rattle.qc_model.specs.declared.direction.Direction.{Direction}
@@ -22,6 +24,7 @@ use Rattle.qc_model.specs.Closing.{IsClosable, IsWorkBound, complete, ends_late,
 use Rattle.qc_model.specs.Instance.{InstanceView, Valid}
 use Rattle.qc_model.specs.Leaves.{Leaf, chain, is_out_of_reach, leaf_value, reach}
 use Rattle.qc_model.specs.Nodes.{HasStarts, IsComplete, IsInReach, IsNodeEnd, reaches}
+use Rattle.qc_model.specs.Numbers.{most_tasks}
 use Rattle.qc_model.specs.Rules.{last_end}
 use Rattle.qc_starts.specs.Seen.{IsReached, IsWhy}
 use Rattle.qc_tree.specs.Trees.{leaf_text, sign_text, sign_value}
@@ -30,11 +33,11 @@ use Rattle.qc_search.specs.declared.branch.Branch.{Branch}
 use Rattle.qc_search.specs.declared.progress.Progress.{Progress}
 use Rattle.qc_search.specs.Earned.{IsChainTo, IsClosedAt, IsGivenUp, IsClashLate}
 use Rattle.qc_search.specs.Lines.{IsLeafBy, leaf_of}
-use Rattle.qc_search.specs.Progress.{IsPassed, IsSoon, IsStep, IsTaken, WritesNodes, left_by}
+use Rattle.qc_search.specs.Progress.{IsPassed, IsSoon, IsStep, IsTaken, Visits, WritesNodes, emptied, left_by}
 use Rattle.qc_search.specs.Walk.{IsOpenBranch, first_of, from_child, from_node, sign_of}
 use Rattle.qc_search.proofs.DescentLemmas.{branch_due}
 use Rattle.qc_search.proofs.LineLemmas.{work_shown}
-use Rattle.qc_search.proofs.NodesLemmas.{step_written}
+use Rattle.qc_search.proofs.NodesLemmas.{from_path, step_written}
 use Rattle.qc_search.proofs.StepLemmas.{IsLeafStep, branch_step, leaf_step, met_before, same_but}
 
 -- ---- out of reach
@@ -327,3 +330,32 @@ pub reach_written : {before after : View} (inst : InstanceView) (way : Direction
 reach_written inst way ds d now result away w =
     step_written (d ∷ ds) (later inst ds d ++ behind inst ds) (signs.leaf reach) now now result
     (reach_step inst way ds d now away) w
+
+-- ---- what a node is left with
+
+module _ {before after : View} (node : Node) (way : Direction) (old new : Progress) where
+  -- one without children
+  pub visits_leaf : (result : Result (Option Decision) WriteFault) → IfOk result (λ child. child ≡ None)
+      → WritesNodes [] before after node.inst way (from_node node.inst node.decisions)
+      (left_by (λ _. behind node.inst node.decisions) (emptied result)) old new (emptied result)
+      → new.branched ≡ old.branched → new.limit ≡ old.limit → old.branched ≤ old.limit
+      → Visits before after node way old new result
+  visits_leaf (Ok None) none line branched limit few = record {
+    line = line;
+    child = tt;
+    fewer = omega (arith, branched, limit);
+    few = omega (arith, branched, limit, few);
+  }
+  visits_leaf (Ok (Some child)) none line branched limit few = absurd (cc none)
+  visits_leaf (Err fault) none line branched limit few = record { line = line; child = tt; fewer = tt; few = tt }
+
+  -- what closing a node does to the room for a leaf's tasks tells nothing
+  pub visits_from : (path : SmallVec ℕ) (result : Result (Option Decision) WriteFault)
+      → (HasRoom most_tasks old.path → HasRoom most_tasks path)
+      → Visits before after node way (record old { path = path }) new result → Visits before after node way old new result
+  visits_from path result room v = record {
+    line = from_path old path room v.line;
+    child = v.child;
+    fewer = v.fewer;
+    few = v.few;
+  }

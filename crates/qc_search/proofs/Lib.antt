@@ -15,3 +15,4 @@ pub mod GivenLemmas
 pub mod TreeLemmas
 pub mod RunLemmas
 pub mod PlaceLemmas
+pub mod OutlookLemmas

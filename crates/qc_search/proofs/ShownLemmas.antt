@@ -1,5 +1,5 @@
 -- The best schedule as it is answered: it can be judged, and is tight.
-use Rattle.std.proofs.Common.{◌≡◌, ℕ, ◌-◌, ◌<◌, ◌≤◌, All, List, length, get_or, map, Option, None, Some, refl, ap, sym, subst, ◌∙◌, ext_get_or, arith, IfSome, MatchOption}
+use Rattle.std.proofs.Common.{◌≡◌, ℕ, ◌-◌, ◌<◌, ◌≤◌, All, List, length, get_or, map, Option, None, Some, refl, ap, sym, subst, subst₂, ◌∙◌, ext_get_or, arith, IfSome, MatchOption}
 use Rattle.std.proofs.lemmas.List.{get_or-map, get_or_default, length-map}
 use Rattle.qc_num.specs.declared.bound.Bound.{Bound}
 use Rattle.qc_num.specs.declared.bound.Bound.TheVariants.{Least, Never}
@@ -158,12 +158,18 @@ module _ (home : InstanceView) (first : Option (List Slot)) (v : Valid home) (do
         omega (arith, is, kept_soon j low);
   }
 
+  same_met : seen_schedule home shown k.node.way ≡ kept
+  same_met = turned_as_met home k.node.way kept (λ j low. kept_low j (omega (arith, kept_count, low)))
+
+  pub shown_goes : IsAllowedSo home.turn home shown k.node.way
+  shown_goes = allowed_as home k.node.way kept kept_goes kept_feasible k.only_up same_met shown_low
+
   pub shown_tight : IsTight home shown
   shown_tight =
-      let same = turned_as_met home k.node.way kept (λ j low. kept_low j (omega (arith, kept_count, low))) in
+      let same = same_met in
       record {
         way = k.node.way;
-        goes = allowed_as home k.node.way kept kept_goes kept_feasible k.only_up same shown_low;
+        goes = shown_goes;
         least = subst (λ (s : List Slot). AreLeast inst (decided_by inst s) (starts s)) (sym same) kept_least;
       }
 
@@ -203,3 +209,10 @@ module _ (home : InstanceView) (first : Option (List Slot)) (v : Valid home) (do
   tight_is = some_shown _ (IsTight home) _ (best_shown home first done nodes course (IsTight home) (λ end e k.
       subst (λ (s : List Slot). IsTight home (seen_schedule home s k.node.way)) (sym k.is)
       (shown_tight home first v done nodes end k)))
+
+  pub goes_is : IfSome (shown_best (length home.cranes) done.incumbent_end done.way done.incumbent)
+      (λ s. IsAllowedSo home.turn home s done.way)
+  goes_is = some_shown _ (λ s. IsAllowedSo home.turn home s done.way) _ (best_shown home first done nodes course
+      (λ s. IsAllowedSo home.turn home s done.way) (λ end e k.
+      subst₂ (λ (s : List Slot) (way : Direction). IsAllowedSo home.turn home (seen_schedule home s k.node.way) way)
+      (sym k.is) k.way (shown_goes home first v done nodes end k)))

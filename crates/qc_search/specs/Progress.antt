@@ -1,6 +1,6 @@
 -- inner: how far a search has come, and what its steps write and leave. A bound is a lower bound on the ends of
 -- schedules; the incumbent is the best schedule that is known.
-use Rattle.std.specs.Prelude.{◌≡◌, ℕ, ◌<◌, ◌≤◌, ◌⊎◌, List, [], ◌∷◌, ◌++◌, map, length, Option, None, Some, Result, Ok, Err, ⊤, IfSome, OnOk, Contains}
+use Rattle.std.specs.Prelude.{◌≡◌, ℕ, ◌<◌, ◌≤◌, ◌⊎◌, List, [], ◌∷◌, ◌++◌, map, length, Option, None, Some, Result, Ok, Err, ⊤, IfOk, IfSome, OnOk, Contains}
 use Rattle.qc_io.specs.declared.writing.WriteFault.{WriteFault}
 use Rattle.qc_io.specs.Outside.{View}
 use Rattle.qc_io.specs.Writes.{Writes}
@@ -9,23 +9,25 @@ use Rattle.qc_num.specs.declared.bound.Bound.TheVariants.{Least, Never}
 use Rattle.qc_num.specs.Bounds.{IsAtMost, least_bound}
 use Rattle.qc_num.specs.Paths.{HasRoom}
 use Rattle.smallvec.specs.SmallVec.{SmallVec}
+use Rattle.qc_dist.specs.Node.{Node}
 use Rattle.qc_model.specs.declared.decision.Decision.{Decision}
 use Rattle.qc_model.specs.declared.direction.Direction.{Direction}
 use Rattle.qc_model.specs.declared.direction.Direction.TheVariants.{Up, Down}
 use Rattle.qc_model.specs.declared.pair.Pair.{Pair}
 use Rattle.qc_model.specs.declared.schedule.Slot.{Slot}
 use Rattle.qc_model.specs.declared.turn.Turn.TheVariants.{Free}
-use Rattle.qc_model.specs.Instance.{InstanceView}
+use Rattle.qc_model.specs.Instance.{InstanceView, Valid}
 use Rattle.qc_model.specs.Nodes.{Agrees, AreLeast, Fits, IsComplete, IsInReach, IsSettled, schedule_with}
-use Rattle.qc_model.specs.Numbers.{most_start, most_tasks}
+use Rattle.qc_model.specs.Numbers.{most_branchings, most_start, most_tasks}
 use Rattle.qc_model.specs.OneWay.{flipped}
-use Rattle.qc_model.specs.Rules.{ends, last_end}
+use Rattle.qc_model.specs.Rules.{last_end}
 use Rattle.qc_model.specs.Seen.{seen, seen_schedule}
 use Rattle.qc_tree.specs.Trees.{Holds, IsTree, Leads, Node, Sign, Tree, part_text, sign_value, tree_text}
 use Rattle.qc_search.specs.declared.progress.Progress.{Progress}
 use Rattle.qc_search.specs.Earned.{IsEarnedBehind, IsKnownEnd, IsSolved, TreeNode, branchings_in, node_at, part_nodes, solved_end, tree_nodes}
-use Rattle.qc_search.specs.Run.{IsFirst, best_end}
-use Rattle.qc_starts.specs.Tight.{IsSeenSo, IsTight, ordered_pairs}
+use Rattle.qc_search.specs.Run.{best_end}
+use Rattle.qc_search.specs.Walk.{IsChild, from_child, from_node, steps_left}
+use Rattle.qc_starts.specs.Tight.{ordered_pairs}
 
 -- the progress before the first line
 abbrev pub begun : (limit : ℕ) → List Slot → SmallVec ℕ → Progress
@@ -155,6 +157,26 @@ abbrev pub left_by : {A : Type 0} → (A → List (List Decision)) → Result A 
 left_by left (Ok x) = left x
 left_by left (Err fault) = []
 
+-- a node at which a line is to be written
+pub record IsMet (node : Node) (now : Progress) : Type 0 where
+  pub valid : Valid node.inst
+  pub in_reach : IsInReach node.inst node.decisions
+  pub count : length now.incumbent ≡ length node.inst.tasks
+  pub room : HasRoom most_tasks now.path
+  pub few : now.branched ≤ now.limit
+
+-- the line of a node was written, or a front part of it. Behind it comes its first child, which is answered, if it has
+-- children; with each line fewer may still come
+pub record Visits (before after : View) (node : Node) (way : Direction) (old new : Progress)
+    (result : Result (Option Decision) WriteFault) : Type 0 where
+  pub line : WritesNodes [] before after node.inst way (from_node node.inst node.decisions)
+      (left_by (from_child node.inst node.decisions) result) old new (emptied result)
+  pub child : IfOk result (λ child. IfSome child (IsChild node.inst node.decisions))
+  pub fewer : IfOk result (λ child.
+      steps_left (from_child node.inst node.decisions child) new.limit new.branched
+      < steps_left (from_node node.inst node.decisions) old.limit old.branched)
+  pub few : OnOk result (new.branched ≤ new.limit)
+
 -- an end improves on that of the incumbent, if there is one
 abbrev pub Improves : ℕ → Bound → Type 0
 Improves end (Least least) = end < least
@@ -214,24 +236,20 @@ pub record IsTightened (inst : InstanceView) (old new : List Slot) (end : ℕ) :
   pub ends : end ≡ last_end inst.tasks begins
   pub soon : end ≤ most_start
 
--- the progress before the first line where a schedule is given: its tight form is the incumbent
-pub record IsBegunWith (home : InstanceView) (given : List Slot) (limit : ℕ) (path : SmallVec ℕ) (now : Progress)
-    : Type 0 where
-  pub way : Direction
-  pub direction : IsSeenSo home.turn home given way
+-- the tight form of a schedule, as it is seen this way, was made the incumbent
+pub record IsBegunWith (home : InstanceView) (given : List Slot) (way : Direction) (old now : Progress) : Type 0 where
   pub end : ℕ
   pub tightened : IsTightened (seen home way) (seen_schedule home given way) now.incumbent end
-  pub is : now ≡ record (begun limit now.incumbent path) { incumbent_end = Least end; way = way }
+  pub is : now ≡ record old { incumbent_end = Least end; way = way; incumbent = now.incumbent }
+
+-- the incumbent as it is answered, if there is one
+abbrev pub known_best : InstanceView → Progress → Option (List Slot)
+known_best home now = shown_best (length home.cranes) now.incumbent_end now.way now.incumbent
 
 -- the progress before the first line, which is that of no nodes behind the schedule with which the search begins
-pub record IsBegun (home : InstanceView) (given : Option (List Slot)) (limit : ℕ) (now : Progress) : Type 0 where
-  pub first : Option (List Slot)
-  pub begins : IsFirst home given first
-  pub tight : IfSome first (IsTight home)
-  pub no_later : IfSome given (λ sched. IsAtMost (best_end home first) (Least (ends home sched)))
-  pub progress : IsProgress home first now []
-  pub known : now.incumbent_end ≡ best_end home first
-  pub limit_is : now.limit ≡ limit
+pub record IsBegun (home : InstanceView) (now : Progress) : Type 0 where
+  pub progress : IsProgress home (known_best home now) now []
   pub bound : now.bound ≡ Never
   pub count : length now.incumbent ≡ length home.tasks
   pub room : HasRoom most_tasks now.path
+  pub few : now.limit ≤ most_branchings

@@ -5,6 +5,7 @@ use Rattle.qc_io.specs.Outside.{GrewByPart}
 use Rattle.qc_num.specs.declared.bound.Bound.{Bound}
 use Rattle.qc_num.specs.declared.bound.Bound.TheVariants.{Least, Never}
 use Rattle.qc_num.specs.Bounds.{IsAtMost}
+use Rattle.qc_model.specs.declared.direction.Direction.{Direction}
 use Rattle.qc_model.specs.declared.schedule.Slot.{Slot}
 use Rattle.qc_model.specs.declared.turn.Turn.{Turn}
 use Rattle.qc_model.specs.declared.turn.Turn.TheVariants.{OneWay, Free}
@@ -14,7 +15,7 @@ use Rattle.qc_model.specs.Nodes.{order_pairs, schedule_with}
 use Rattle.qc_model.specs.Numbers.{most_start}
 use Rattle.qc_model.specs.Rules.{ends}
 use Rattle.qc_model.specs.Seen.{seen, seen_schedule}
-use Rattle.qc_starts.specs.Tight.{IsTight, IsTightForm}
+use Rattle.qc_starts.specs.Tight.{IsAllowedSo, IsTight, IsTightForm}
 use Rattle.qc_tree.specs.Trees.{NoneEarlier, Tree, IsTree, tree_branchings, tree_text, tree_value}
 use Rattle.qc_search.specs.declared.done.Kind.{Kind}
 use Rattle.qc_search.specs.declared.done.Kind.TheVariants.{Budget, Infeasible, Optimal}
@@ -74,10 +75,12 @@ parts_by Free = 1
 abbrev pub branching_limit : InstanceView → ℕ
 branching_limit inst = parts_by inst.turn * max 2 (length inst.cranes) ^ (length inst.tasks + order_pairs inst)
 
--- a search that isn't run yet: for this instance, with so many branchings
+-- a search that isn't run yet: for this instance, with so many branchings. It begins with the tight form of a schedule that
+-- it was offered, or with none
 pub record SearchView : Type 0 where
   pub inst : InstanceView
   pub nodes : ℕ
+  pub first : Option (List Slot)
 
 -- what a search came to
 pub record DoneView : Type 0 where
@@ -87,11 +90,8 @@ pub record DoneView : Type 0 where
   -- when the schedule that it began with ends; none where it was given none
   pub given : Option ℕ
   pub best : Option (List Slot)
-
--- the schedule with which a search begins: the tight form of the one that it is given; none where it is given none
-abbrev pub IsFirst : InstanceView → Option (List Slot) → Option (List Slot) → Type 0
-IsFirst inst None first = first ≡ None
-IsFirst inst (Some given) first = IsSomeAnd first (IsTightForm inst given)
+  -- the way in which the best one is seen
+  pub way : Direction
 
 -- the tight form of a schedule ends then, which is no later than the schedule does
 pub record IsTightEnd (inst : InstanceView) (given : List Slot) (end : ℕ) : Type 0 where
@@ -100,42 +100,38 @@ pub record IsTightEnd (inst : InstanceView) (given : List Slot) (end : ℕ) : Ty
   pub is : end ≡ ends inst first
   pub no_later : end ≤ ends inst given
 
--- what a search tells of a schedule that it was given: when its tight form ends, which is no later; and its best schedule
--- ends no later than that
-pub record IsGivenTold (inst : InstanceView) (given : List Slot) (done : DoneView) : Type 0 where
-  pub first : List Slot
-  pub form : IsTightForm inst given first
-  pub told : done.given ≡ Some (ends inst first)
-  pub no_later : ends inst first ≤ ends inst given
-  pub best : IsAtMost (best_end inst done.best) (Least (ends inst first))
+-- a search is offered a schedule: it keeps what it begins with where that ends no later, and else begins with the tight form
+-- of this one, which ends no later than it
+pub record IsOffered (inst : InstanceView) (given : List Slot) (before after : Option (List Slot)) : Type 0 where
+  pub kept : IsAtMost (best_end inst before) (Least (ends inst given)) → after ≡ before
+  pub taken : ¬ IsAtMost (best_end inst before) (Least (ends inst given))
+      → IsSomeAnd after (λ first. IsTightForm inst given first × (ends inst first ≤ ends inst given))
 
 -- what holds of each search that comes to its end, whether the sink tells its bytes or not
-pub record IsSound (search : SearchView) (given : Option (List Slot)) (done : DoneView) : Type 0 where
+pub record IsSound (search : SearchView) (done : DoneView) : Type 0 where
   -- no schedule of the instance's turn ends before the bound; where it is Never, there is none
   pub none_earlier : NoneEarlier search.inst done.bound
   -- the best schedule can be judged, and is semi-active
   pub judgeable : IfSome done.best (IsJudgeable search.inst)
   pub tight : IfSome done.best (IsTight search.inst)
+  -- cranes may follow it as it is seen
+  pub goes : IfSome done.best (λ sched. IsAllowedSo search.inst.turn search.inst sched done.way)
   -- its tasks end at ticks of at most 12 digits
   pub soon : IfSome done.best (λ sched. ends search.inst sched ≤ most_start)
   -- the outcome is that of the bound and of the best schedule's end
   pub kind : done.kind ≡ outcome done.bound (best_end search.inst done.best)
   -- under Budget exactly as many branchings are written as may be
   pub spent : done.kind ≡ Budget → done.branched ≡ search.nodes
-  -- a given schedule is told, and the best one is no worse
-  pub begins : MatchOption given (done.given ≡ None) (λ sched. IsGivenTold search.inst sched done)
+  -- the schedule that it began with is told, and the best one is no worse
+  pub given : done.given ≡ option_map (ends search.inst) search.first
+  pub no_later : IsAtMost (best_end search.inst done.best) (best_end search.inst search.first)
   -- with so many branchings the search comes to a decision
   pub decides : branching_limit search.inst ≤ search.nodes → done.kind ≢ Budget
 
--- the bytes grew by the text of a tree that is a run which began with the given schedule, and what is told is told of
--- that tree
-pub record IsSearched (search : SearchView) (given : Option (List Slot)) (before after : Option (List ℕ)) (done : DoneView)
-    : Type 0 where
-  pub first : Option (List Slot)
-  pub begins : IsFirst search.inst given first
-  pub told : done.given ≡ option_map (ends search.inst) first
+-- the bytes grew by the text of a tree that is a run, and what is told is told of that tree
+pub record IsSearched (search : SearchView) (before after : Option (List ℕ)) (done : DoneView) : Type 0 where
   pub tree : Tree
-  pub run : IsRun search.inst search.nodes first tree done.best done.kind
+  pub run : IsRun search.inst search.nodes search.first tree done.best done.kind
   pub bound : done.bound ≡ tree_value search.inst tree
   pub branched : done.branched ≡ tree_branchings tree
   pub written : after ≡ append_known before (tree_text search.inst tree)

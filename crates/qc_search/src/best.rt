@@ -11,7 +11,7 @@ use qc_num::{Bound, Tick};
 use qc_starts::Starts;
 
 /// Whether an end improves on that of the incumbent, if there is one.
-fn improves(end: Tick, incumbent_end: Bound) -> bool
+pub(crate) fn improves(end: Tick, incumbent_end: Bound) -> bool
     ensures { IsTrue result ↔ Improves end incumbent_end }
 {
     match incumbent_end {

@@ -3,7 +3,7 @@
 ghost use Rattle.qc_search.specs.Run.{DoneView};
 ghost use Rattle.std.specs.Prelude.{◌≡◌, option_map};
 
-use qc_model::Schedule;
+use qc_model::{Direction, Schedule};
 use qc_num::{Bound, Tick};
 use std::marker::Model;
 
@@ -26,6 +26,7 @@ pub struct Done {
     pub(crate) bound: Bound,
     pub(crate) branched: u32,
     pub(crate) given: Option<Tick>,
+    pub(crate) way: Direction,
     pub(crate) best: Option<Schedule>,
 }
 
@@ -38,6 +39,7 @@ impl Model for Done {
       branched = done.branched;
       given = done.given;
       best = done.best;
+      way = done.way;
     } };
 }
 
@@ -64,8 +66,7 @@ impl Done {
         self.branched
     }
 
-    /// When the schedule that the search began with ends, in ticks: the tight form of the given one; `None` exactly where
-    /// none was given.
+    /// When the schedule that the search began with ends, in ticks; `None` exactly where it began with none.
     pub fn given(&self) -> Option<Tick>
         ensures { result ≡ self.now.given }
     {
@@ -80,7 +81,15 @@ impl Done {
         self.best.as_ref()
     }
 
-    /// The same, given away.
+    /// The way in which the best schedule is seen: up or down where cranes go one way, though one that goes down
+    /// may go up too; up where they go as they like.
+    pub fn way(&self) -> Direction
+        ensures { result ≡ self.now.way }
+    {
+        self.way
+    }
+
+    /// The best schedule, given away.
     pub fn into_best(self) -> Option<Schedule>
         ensures { result ≡ self.best }
     {

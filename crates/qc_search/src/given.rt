@@ -1,26 +1,25 @@
-//! What a search begins with: nothing, or the tight form of a given schedule. This has the same cranes and the same order
-//! of apart tasks, or of all tasks that conflict where cranes go as they like, and the earliest starts with these.
-ghost use Rattle.std.specs.Prelude.{◌≡◌, ◌+◌, ℕ, ◌<◌, ◌≤◌, [], ◌∷◌, None, IfSome, length, option_map, slice_index_or};
+//! What a search begins with: nothing, or the tight form of a schedule that it was offered. This has the same
+//! cranes and the same order of apart tasks, or of all tasks that conflict where cranes go as they like, and
+//! the earliest starts with these.
+ghost use Rattle.std.specs.Prelude.{◌≡◌, ◌+◌, ℕ, ◌<◌, ◌≤◌, [], ◌∷◌, None, length, slice_index_or};
 ghost use Rattle.qc_model.specs.declared.decision.Decision.TheVariants.{Assign};
 ghost use Rattle.qc_model.specs.Frames.{GoesBy};
 ghost use Rattle.qc_model.specs.Instance.{IsApart, Valid, pair_of};
-ghost use Rattle.qc_model.specs.Judge.{IsDirection, IsJudgeable};
+ghost use Rattle.qc_model.specs.Judge.{IsJudgeable};
 ghost use Rattle.qc_model.specs.Nodes.{Agrees, Conflicts, IsSettled, assigned};
-ghost use Rattle.qc_model.specs.Numbers.{most_start, most_tasks};
-ghost use Rattle.qc_model.specs.OneWay.{GoesOneWay, IsAllowed};
+ghost use Rattle.qc_model.specs.Numbers.{most_start};
 ghost use Rattle.qc_model.specs.Rules.{crane_of, start_of};
-ghost use Rattle.qc_model.specs.Seen.{seen, seen_schedule};
-ghost use Rattle.qc_num.specs.Paths.{HasRoom};
+ghost use Rattle.qc_model.specs.Seen.{seen_schedule};
 ghost use Rattle.qc_starts.specs.Seen.{AreAssigned};
 ghost use Rattle.qc_starts.specs.Tight.{IsSeenSo, order_in};
-ghost use Rattle.qc_search.specs.Progress.{AreOrdered, IsBegun, IsBegunWith, IsTightened};
-ghost use Rattle.qc_search.specs.Run.{IsTightEnd};
+ghost use Rattle.qc_search.specs.Progress.{AreOrdered, IsBegun, IsBegunWith, IsTightened, known_best};
+ghost use Rattle.qc_search.specs.Run.{IsOffered};
 
-use crate::best::keep;
-use crate::progress::{Progress, first_progress};
+use crate::best::{improves, keep};
+use crate::progress::Progress;
 use crate::roots::Roots;
-use qc_model::{Decision, Direction, Instance, Pair, Schedule, Turn, direction_of};
-use qc_num::{Bound, Path, Tick};
+use qc_model::{Decision, Direction, Instance, Pair, Schedule, ends};
+use qc_num::{Bound, Tick};
 use qc_starts::Starts;
 
 /// Puts a task on its crane of the schedule.
@@ -172,31 +171,6 @@ fn copy_slots(from: &Schedule, tasks: u16, to: &mut Schedule)
     }
 }
 
-/// The way in which a schedule is seen that cranes may follow: that in which it goes, or upward where they go as they
-/// like.
-fn way_of(inst: &Instance, given: &Schedule) -> Direction
-    requires judgeable { IsJudgeable inst.now given.now }
-    requires allowed { IsAllowed inst.now given.now }
-    ensures { IsSeenSo inst.now.turn inst.now given.now result }
-{
-    match inst.turn() {
-        Turn::OneWay => way_it_goes(inst, given),
-        Turn::Free => Direction::Up,
-    }
-}
-
-/// The way in which a schedule goes that goes one way.
-fn way_it_goes(inst: &Instance, given: &Schedule) -> Direction
-    requires judgeable { IsJudgeable inst.now given.now }
-    requires goes { GoesOneWay inst.now given.now }
-    ensures { IsDirection inst.now given.now result }
-{
-    let Ok(way) = direction_of(inst, given) else {
-        unreachable!()
-    };
-    way
-}
-
 /// Turns a schedule so that it is as it is seen that way.
 fn see(inst: &Instance, way: Direction, sched: &mut Schedule)
     requires { IsJudgeable inst.now sched.old }
@@ -208,79 +182,37 @@ fn see(inst: &Instance, way: Direction, sched: &mut Schedule)
     }
 }
 
-/// Writes the tight form of a schedule that cranes may follow, as it is seen, over another of as many tasks, and answers
-/// the way in which it is seen and when it ends.
-fn tighten_given(given: &Schedule, roots: &mut Roots, tight: &mut Schedule) -> (Direction, Tick)
+/// Makes the tight form of a schedule that cranes may follow the incumbent, as it is seen that way.
+fn begin_with(given: &Schedule, way: Direction, roots: &mut Roots, progress: &mut Progress)
     requires judgeable { IsJudgeable roots.old given.now }
-    requires allowed { IsAllowed roots.old given.now }
-    requires count { length tight.old ≡ length roots.old.tasks }
+    requires seen { IsSeenSo roots.old.turn roots.old given.now way }
+    requires count { length progress.old.incumbent ≡ length roots.old.tasks }
     ensures stays { roots.new ≡ roots.old }
     ensures valid { Valid roots.old }
-    ensures way { IsSeenSo roots.old.turn roots.old given.now result.0 }
-    ensures tightened { IsTightened (seen roots.old result.0) (seen_schedule roots.old given.now result.0)
-        tight.new result.1 }
+    ensures begins { IsBegunWith roots.old given.now way progress.old progress.new }
 {
-    let way = way_of(roots.instance(), given);
-    copy_slots(given, roots.instance().task_count(), tight);
-    see(roots.instance(), way, tight);
-    let end = roots.tighten(way, tight);
-    (way, end)
+    let tasks = roots.instance().task_count();
+    copy_slots(given, tasks, &mut progress.incumbent);
+    see(roots.instance(), way, &mut progress.incumbent);
+    let end = roots.tighten(way, &mut progress.incumbent);
+    progress.incumbent_end = Bound::Least(end);
+    progress.way = way;
 }
 
-/// When the tight form of a schedule that cranes may follow ends; its slots are written over those of another of as many
-/// tasks.
-pub(crate) fn tight_end(given: &Schedule, roots: &mut Roots, tight: &mut Schedule) -> Tick
+/// Begins with the tight form of a schedule that cranes may follow, as it is seen that way, where the schedule ends
+/// before the incumbent.
+pub(crate) fn offer(given: &Schedule, way: Direction, roots: &mut Roots, progress: &mut Progress)
     requires judgeable { IsJudgeable roots.old given.now }
-    requires allowed { IsAllowed roots.old given.now }
-    requires count { length tight.old ≡ length roots.old.tasks }
+    requires seen { IsSeenSo roots.old.turn roots.old given.now way }
+    requires begun { IsBegun roots.old progress.old }
     ensures stays { roots.new ≡ roots.old }
-    ensures count { length tight.new ≡ length roots.old.tasks }
-    ensures is { IsTightEnd roots.old given.now result }
+    ensures limit { progress.new.limit ≡ progress.old.limit }
+    ensures begun { IsBegun roots.old progress.new }
+    ensures offered { IsOffered roots.old given.now (known_best roots.old progress.old)
+        (known_best roots.old progress.new) }
 {
-    let (_, end) = tighten_given(given, roots, tight);
-    end
-}
-
-/// The progress before the first line where a schedule is given that cranes may follow.
-fn begin_with(
-    given: &Schedule,
-    roots: &mut Roots,
-    mut incumbent: Schedule,
-    path: Path,
-    limit: u32,
-) -> Progress
-    requires judgeable { IsJudgeable roots.old given.now }
-    requires allowed { IsAllowed roots.old given.now }
-    requires count { length incumbent ≡ length roots.old.tasks }
-    ensures stays { roots.new ≡ roots.old }
-    ensures valid { Valid roots.old }
-    ensures begins { IsBegunWith roots.old given.now limit path result }
-{
-    let (way, end) = tighten_given(given, roots, &mut incumbent);
-    Progress {
-        incumbent_end: Bound::Least(end),
-        way,
-        ..first_progress(incumbent, path, limit)
-    }
-}
-
-/// The progress before the first line. Cranes may follow a schedule that is given, and its tight form is the incumbent.
-pub(crate) fn begin(
-    given: Option<&Schedule>,
-    roots: &mut Roots,
-    incumbent: Schedule,
-    path: Path,
-    limit: u32,
-) -> Progress
-    requires judgeable { IfSome given (λ sched. IsJudgeable roots.old sched.now) }
-    requires allowed { IfSome given (λ sched. IsAllowed roots.old sched.now) }
-    requires count { length incumbent ≡ length roots.old.tasks }
-    requires room { HasRoom most_tasks path }
-    ensures stays { roots.new ≡ roots.old }
-    ensures begins { IsBegun roots.old (option_map (λ sched. sched.now) given.entry) limit result }
-{
-    match given {
-        None => first_progress(incumbent, path, limit),
-        Some(sched) => begin_with(sched, roots, incumbent, path, limit),
+    let end = ends(roots.instance(), given);
+    if improves(end, progress.incumbent_end) {
+        begin_with(given, way, roots, progress);
     }
 }

@@ -3,8 +3,8 @@
 //! held.
 //!
 //! `Search::run` writes a whole tree of at most N branchings, which branches only where a node
-//! can't be closed. Its best schedule is the tight form of the given one, or one that a node met,
-//! no later; no schedule ends before its bound. A sink that fails holds a front part of a tree.
+//! can't be closed. Its best schedule is the tight form of the one that it was offered, or one that a
+//! node met, no later; no schedule ends before its bound. A sink that fails holds a front part of a tree.
 //! Want of memory is answered by `Search::open` alone.
 #![tactic(auto)]
 

@@ -1,21 +1,16 @@
 //! The line of a node.
-ghost use Rattle.std.specs.Prelude.{◌≡◌, ◌+◌, ◌<◌, ◌≤◌, ◌⊎◌, [], List, ℕ, Some, IfOk, IfSome, OnOk, length};
+ghost use Rattle.std.specs.Prelude.{◌≡◌, ◌<◌, ◌⊎◌, List, ℕ, None, Some, IfOk, length};
 ghost use Rattle.qc_bounds.specs.Closed.{IsClosedBy, IsSpentBy};
 ghost use Rattle.qc_bounds.specs.declared.leaves.LeafKind.TheVariants.{Chain};
 ghost use Rattle.qc_close.specs.Crews.{IsCrewOf};
-ghost use Rattle.qc_dist.specs.Children.{behind};
 ghost use Rattle.qc_io.specs.Writes.{Writes};
 ghost use Rattle.qc_model.specs.Closing.{IsClosable};
-ghost use Rattle.qc_model.specs.Instance.{Valid};
 ghost use Rattle.qc_model.specs.Leaves.{leaf_value};
-ghost use Rattle.qc_model.specs.Nodes.{HasStarts, IsInReach};
-ghost use Rattle.qc_model.specs.Numbers.{most_tasks};
+ghost use Rattle.qc_model.specs.Nodes.{HasStarts};
 ghost use Rattle.qc_num.specs.Bounds.{lesser};
-ghost use Rattle.qc_num.specs.Paths.{HasRoom};
 ghost use Rattle.qc_tree.specs.Trees.{leaf_text};
 ghost use Rattle.qc_search.specs.Lines.{IsLeafBy, IsWritable, leaf_of};
-ghost use Rattle.qc_search.specs.Progress.{IsPassed, IsSoon, IsTaken, WritesNodes, emptied, left_by};
-ghost use Rattle.qc_search.specs.Walk.{IsChild, from_child, from_node, steps_left};
+ghost use Rattle.qc_search.specs.Progress.{IsMet, IsPassed, IsSoon, IsTaken, Visits, emptied};
 
 use crate::best::meet;
 use crate::choice::pick;
@@ -67,16 +62,17 @@ fn meet_closed(leaf: LeafKind, starts: &Starts, way: Direction, progress: &mut P
     }
 }
 
-/// Takes the value of a leaf into the bound, and writes its line.
+/// Takes the value of a leaf into the bound, and writes its line. It has no children.
 fn leave<K: Sink>(
     leaf: LeafKind,
     value: Bound,
     progress: &mut Progress,
     sink: &mut K,
-) -> Result<(), WriteFault>
+) -> Result<Option<Decision>, WriteFault>
     requires { IsWritable leaf progress.old.path.items }
     ensures writes { Writes (K.view sink.old) (K.view sink.new)
-        (leaf_text (leaf_of leaf progress.old.path.items)) result }
+        (leaf_text (leaf_of leaf progress.old.path.items)) (emptied result) }
+    ensures none { IfOk result (λ child. child ≡ None) }
     ensures progress { progress.new ≡ record progress.old {
       bound = lesser progress.old.bound value;
       path = progress.new.path;
@@ -84,7 +80,8 @@ fn leave<K: Sink>(
     ensures room { progress.new.path.capacity ≡ progress.old.path.capacity }
 {
     progress.bound = progress.bound.min(value);
-    put_leaf(leaf, &mut progress.path, sink)
+    put_leaf(leaf, &mut progress.path, sink)?;
+    Ok(None)
 }
 
 /// Writes the leaf that closes the node.
@@ -94,18 +91,11 @@ fn put_closed<K: Sink>(
     way: Direction,
     progress: &mut Progress,
     sink: &mut K,
-) -> Result<(), WriteFault>
-    requires valid { Valid starts.now.inst }
-    requires count { length progress.old.incumbent ≡ length starts.now.inst.tasks }
-    requires in_reach { IsInReach starts.now.inst starts.now.decisions }
+) -> Result<Option<Decision>, WriteFault>
+    requires met { IsMet starts.now progress.old }
     requires leaf { IsClosedBy starts.now.inst starts.now.decisions progress.old.incumbent_end leaf
         progress.old.path.items }
-    ensures goes { WritesNodes [] (K.view sink.old) (K.view sink.new) starts.now.inst way
-        (from_node starts.now.inst starts.now.decisions)
-        (left_by (λ _. behind starts.now.inst starts.now.decisions) result)
-        progress.old progress.new result }
-    ensures branched { progress.new.branched ≡ progress.old.branched }
-    ensures limit { progress.new.limit ≡ progress.old.limit }
+    ensures { Visits (K.view sink.old) (K.view sink.new) starts.now way progress.old progress.new result }
 {
     let value = meet_closed(leaf, starts, way, progress);
     leave(leaf, value, progress, sink)
@@ -118,17 +108,12 @@ fn put_spent<K: Sink>(
     way: Direction,
     progress: &mut Progress,
     sink: &mut K,
-) -> Result<(), WriteFault>
-    requires valid { Valid starts.now.inst }
+) -> Result<Option<Decision>, WriteFault>
+    requires met { IsMet starts.now progress.old }
     requires open { ¬ IsClosable starts.now.inst starts.now.decisions progress.old.incumbent_end }
     requires spent { progress.old.branched ≡ progress.old.limit }
     requires leaf { IsSpentBy starts.now.inst starts.now.decisions leaf progress.old.path.items }
-    ensures goes { WritesNodes [] (K.view sink.old) (K.view sink.new) starts.now.inst way
-        (from_node starts.now.inst starts.now.decisions)
-        (left_by (λ _. behind starts.now.inst starts.now.decisions) result)
-        progress.old progress.new result }
-    ensures branched { progress.new.branched ≡ progress.old.branched }
-    ensures limit { progress.new.limit ≡ progress.old.limit }
+    ensures { Visits (K.view sink.old) (K.view sink.new) starts.now way progress.old progress.new result }
 {
     let value = value_of(leaf, starts);
     leave(leaf, value, progress, sink)
@@ -140,28 +125,17 @@ fn put_branching<K: Sink>(
     way: Direction,
     progress: &mut Progress,
     sink: &mut K,
-) -> Result<Decision, WriteFault>
-    requires valid { Valid starts.now.inst }
+) -> Result<Option<Decision>, WriteFault>
+    requires met { IsMet starts.now progress.old }
     requires starts { HasStarts starts.now.inst starts.now.decisions }
     requires open { ¬ IsClosable starts.now.inst starts.now.decisions progress.old.incumbent_end }
     requires left { progress.old.branched < progress.old.limit }
-    ensures goes { WritesNodes [] (K.view sink.old) (K.view sink.new) starts.now.inst way
-        (from_node starts.now.inst starts.now.decisions)
-        (left_by (λ child. from_child starts.now.inst starts.now.decisions (Some child)) result)
-        progress.old progress.new (emptied result) }
-    ensures child { IfOk result (IsChild starts.now.inst starts.now.decisions) }
-    ensures branched { progress.new.branched ≡ progress.old.branched + 1 }
-    ensures limit { progress.new.limit ≡ progress.old.limit }
-    ensures fewer { IfOk result (λ child.
-        steps_left (from_child starts.now.inst starts.now.decisions (Some child))
-        progress.old.limit (progress.old.branched + 1)
-        < steps_left (from_node starts.now.inst starts.now.decisions)
-        progress.old.limit progress.old.branched) }
+    ensures { Visits (K.view sink.old) (K.view sink.new) starts.now way progress.old progress.new result }
 {
     let branch = pick(starts, progress.incumbent_end);
     progress.branched += 1;
     put_branch(branch, &progress.path, sink)?;
-    Ok(branch.first_child())
+    Ok(Some(branch.first_child()))
 }
 
 /// Meets the node: writes its line, and answers its first child, if it has children.
@@ -172,35 +146,18 @@ pub(crate) fn visit<K: Sink>(
     progress: &mut Progress,
     sink: &mut K,
 ) -> Result<Option<Decision>, WriteFault>
-    requires valid { Valid starts.now.inst }
+    requires met { IsMet starts.now progress.old }
     requires crew { IsCrewOf crew.now starts.now.inst starts.now.decisions }
-    requires count { length progress.old.incumbent ≡ length starts.now.inst.tasks }
-    requires in_reach { IsInReach starts.now.inst starts.now.decisions }
-    requires room { HasRoom most_tasks progress.old.path }
-    requires few { progress.old.branched ≤ progress.old.limit }
-    ensures goes { WritesNodes [] (K.view sink.old) (K.view sink.new) starts.now.inst way
-        (from_node starts.now.inst starts.now.decisions)
-        (left_by (from_child starts.now.inst starts.now.decisions) result)
-        progress.old progress.new (emptied result) }
-    ensures child { IfOk result (λ child. IfSome child (IsChild starts.now.inst starts.now.decisions)) }
-    ensures fewer { IfOk result (λ child.
-        steps_left (from_child starts.now.inst starts.now.decisions child)
-        progress.new.limit progress.new.branched
-        < steps_left (from_node starts.now.inst starts.now.decisions)
-        progress.old.limit progress.old.branched) }
-    ensures few { OnOk result (progress.new.branched ≤ progress.new.limit) }
+    ensures { Visits (K.view sink.old) (K.view sink.new) starts.now way progress.old progress.new result }
 {
     if let Some(leaf) = close(starts, crew, progress.incumbent_end, &mut progress.path) {
-        put_closed(leaf, starts, way, progress, sink)?;
-        return Ok(None);
+        return put_closed(leaf, starts, way, progress, sink);
     }
     let stuck = starts.stuck();
     prove!(!stuck);
     if progress.branched < progress.limit {
-        let child = put_branching(starts, way, progress, sink)?;
-        return Ok(Some(child));
+        return put_branching(starts, way, progress, sink);
     }
     let leaf = spent(starts, crew, &mut progress.path);
-    put_spent(leaf, starts, way, progress, sink)?;
-    Ok(None)
+    put_spent(leaf, starts, way, progress, sink)
 }

@@ -2,6 +2,7 @@
 ghost use Rattle.std.specs.Prelude.{◌≡◌, ◌∷◌, [], ◌<◌, ◌≤◌, ℕ, IfOk, IfSome, None, length};
 ghost use Rattle.qc_close.specs.Crews.{IsCrewOf};
 ghost use Rattle.qc_dist.specs.Node.{IsOpen, Node};
+ghost use Rattle.qc_model.specs.Closing.{IsWorkBound};
 ghost use Rattle.qc_model.specs.Frames.{GoesBy};
 ghost use Rattle.qc_model.specs.Instance.{Valid};
 ghost use Rattle.qc_model.specs.Nodes.{HasStarts};
@@ -12,6 +13,7 @@ ghost use Rattle.qc_search.specs.Places.{IsPlaced, node_of};
 ghost use Rattle.qc_search.specs.Progress.{IsTightened};
 
 use crate::given::tighten;
+use qc_bounds::work_bound;
 use qc_close::Crew;
 use qc_model::{Decision, Instance, Schedule};
 use qc_num::{OutOfMemory, Tick};
@@ -68,6 +70,14 @@ impl Node {
         ensures { IsCrewOf result.now self.now.inst self.now.decisions }
     {
         &self.crew
+    }
+
+    /// An end before which the work of the node doesn't fit.
+    pub(crate) fn bound(&self) -> Tick
+        ensures valid { Valid self.now.inst }
+        ensures work { IsWorkBound self.now.inst self.now.decisions result }
+    {
+        work_bound(&self.crew)
     }
 
     /// Makes the starts of a schedule that cranes may follow as it is the earliest with its cranes and its

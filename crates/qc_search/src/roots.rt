@@ -9,9 +9,11 @@ ghost use Rattle.qc_model.specs.Numbers.{most_branchings, most_start, most_tasks
 ghost use Rattle.qc_model.specs.OneWay.{mirror};
 ghost use Rattle.qc_model.specs.Rules.{start_of};
 ghost use Rattle.qc_model.specs.Seen.{seen};
+ghost use Rattle.qc_num.specs.declared.bound.Bound.TheVariants.{Least};
 ghost use Rattle.qc_num.specs.Paths.{HasRoom};
 ghost use Rattle.qc_search.specs.Progress.{IsProgress, IsSoon, IsTightened, WritesTree};
 ghost use Rattle.qc_search.specs.Roots.{AreRoots, IsTurned, roots_of};
+ghost use Rattle.qc_tree.specs.Trees.{NoneEarlier};
 
 use crate::place::Node;
 use crate::progress::Progress;
@@ -99,6 +101,17 @@ impl Roots {
         match way {
             Direction::Up => self.up.tighten(sched),
             Direction::Down => tighten_down(&mut self.down, sched),
+        }
+    }
+
+    /// An end that no schedule comes before that cranes may follow, by its work alone.
+    pub(crate) fn bound(&self) -> Tick
+        ensures { NoneEarlier self.now (Least result) }
+    {
+        let up = self.up.bound();
+        match &self.down {
+            Some(down) => up.min(down.bound()),
+            None => up,
         }
     }
 

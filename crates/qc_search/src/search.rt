@@ -1,24 +1,26 @@
 //! A search of the parts of a tree.
-ghost use Rattle.std.specs.Prelude.{◌≡◌, ◌<◌, ◌≤◌, ℕ, All, OnErr, IfOk, IfSome, option_map};
+ghost use Rattle.std.specs.Prelude.{◌≡◌, ◌<◌, ◌≤◌, ℕ, All, None, OnErr, IfOk, IfSome, option_map};
 ghost use Rattle.qc_io.specs.Outside.{beside};
 ghost use Rattle.qc_io.specs.Writes.{Counts};
 ghost use Rattle.qc_model.specs.Judge.{IsJudgeable};
 ghost use Rattle.qc_model.specs.Numbers.{most_branchings};
-ghost use Rattle.qc_model.specs.OneWay.{IsAllowed};
+ghost use Rattle.qc_model.specs.Rules.{ends};
 ghost use Rattle.qc_num.specs.declared.bound.Bound.TheVariants.{Least};
 ghost use Rattle.qc_search.specs.Progress.{bound_end, shown_best};
-ghost use Rattle.qc_search.specs.Run.{outcome, SearchView, IsCutOff, IsSearched, IsSound, IsTightEnd};
+ghost use Rattle.qc_search.specs.Run.{outcome, SearchView, IsCutOff, IsOffered, IsSearched, IsSound};
 ghost use Rattle.qc_search.specs.Fields.{AreOpened, search_of};
+ghost use Rattle.qc_starts.specs.Tight.{IsSeenSo};
+ghost use Rattle.qc_tree.specs.Trees.{NoneEarlier};
 
 use crate::best::shown_best;
 use crate::done::Done;
-use crate::given::{begin, tight_end};
+use crate::given::offer;
 use crate::outcome::{end_of, outcome};
-use crate::progress::Progress;
+use crate::progress::{Progress, first_progress};
 use crate::roots::Roots;
-use qc_io::{Sink, WriteFault};
-use qc_model::{Instance, MOST_TASKS, Schedule};
-use qc_num::{Bound, OutOfMemory, Path, Tick};
+use qc_io::{Outlook, Sink, WriteFault};
+use qc_model::{Direction, Instance, MOST_TASKS, Schedule};
+use qc_num::{Bound, OutOfMemory, Path};
 use std::alloc::Global;
 use std::marker::Model;
 
@@ -26,10 +28,7 @@ use std::marker::Model;
 /// and all memory that the run needs.
 pub struct Search {
     roots: Roots,
-    incumbent: Schedule,
-    path: Path,
-    /// How many branchings it may write.
-    limit: u32,
+    progress: Progress,
 }
 
 impl Model for Search {
@@ -45,9 +44,7 @@ impl Drop for Search {
     fn drop(self) {
         let Search {
             roots: _,
-            incumbent: _,
-            path: _,
-            limit: _,
+            progress: _,
         } = self;
     }
 }
@@ -62,6 +59,7 @@ fn told(progress: Progress, first: Bound, cranes: u16) -> Done
       branched = progress.branched;
       given = bound_end first;
       best = shown_best cranes progress.incumbent_end progress.way progress.incumbent;
+      way = progress.way;
     } }
 {
     Done {
@@ -69,6 +67,7 @@ fn told(progress: Progress, first: Bound, cranes: u16) -> Done
         bound: progress.bound,
         branched: progress.branched,
         given: end_of(first),
+        way: progress.way,
         best: shown_best(progress, cranes),
     }
 }
@@ -77,41 +76,50 @@ impl Search {
     /// A search for the instance with at most so many branchings. All memory is taken here.
     pub fn open(alloc: Global, inst: &Instance, limit: u32) -> Result<Search, OutOfMemory>
         requires few { limit ≤ most_branchings }
-        ensures { IfOk result (λ search. search ≡ record { inst = inst.now; nodes = limit }) }
+        ensures { IfOk result (λ search. search ≡ record { inst = inst.now; nodes = limit; first = None }) }
     {
         let incumbent = Schedule::new(alloc, inst.task_count())?;
         let path = Path::with_capacity(alloc, MOST_TASKS as usize)?;
         let roots = Roots::open(alloc, inst)?;
         Ok(Search {
             roots,
-            incumbent,
-            path,
-            limit,
+            progress: first_progress(incumbent, path, limit),
         })
     }
 
-    /// When the tight form of a schedule that cranes may follow ends: with its cranes and its order of tasks, and in its
-    /// direction where they go one way, no task starts earlier.
-    pub fn tight_end(&mut self, given: &Schedule) -> Tick
+    /// Offers a schedule that cranes may follow, as it is seen that way. Where it ends before what the search
+    /// begins with, the search begins with its tight form: with its cranes, its order of tasks and its way no
+    /// task starts earlier.
+    pub fn offer(&mut self, given: &Schedule, way: Direction)
         requires judgeable { IsJudgeable self.old.inst given.now }
-        requires allowed { IsAllowed self.old.inst given.now }
-        ensures stays { self.new ≡ self.old }
-        ensures is { IsTightEnd self.old.inst given.now result }
+        requires seen { IsSeenSo self.old.inst.turn self.old.inst given.now way }
+        ensures stays { self.new ≡ record self.old { first = self.new.first } }
+        ensures offered { IsOffered self.old.inst given.now self.old.first self.new.first }
     {
-        tight_end(given, &mut self.roots, &mut self.incumbent)
+        offer(given, way, &mut self.roots, &mut self.progress);
+    }
+
+    /// What is known before the search: its limit, when what it begins with ends, and an end that no schedule comes
+    /// before, by its work alone.
+    pub fn outlook(&self) -> Outlook
+        ensures end { result.end ≡ option_map (ends self.now.inst) self.now.first }
+        ensures bound { IfSome result.bound (λ bound. NoneEarlier self.now.inst (Least bound)) }
+    {
+        Outlook {
+            limit: self.progress.limit,
+            end: end_of(self.progress.incumbent_end),
+            bound: Some(self.roots.bound()),
+        }
     }
 
     /// Searches, and writes the tree to the sink, each line when its node is met and by a `put_all` of
-    /// its own. Where a schedule that cranes may follow is given, its tight form is the first incumbent: no answer ends
-    /// later. After `WriteFault` a part of a tree's text was written, from its front.
-    pub fn run<K: Sink>(self, given: Option<&Schedule>, sink: &mut K) -> Result<Done, WriteFault>
-        requires judgeable { IfSome given (λ sched. IsJudgeable self.inst sched.now) }
-        requires allowed { IfSome given (λ sched. IsAllowed self.inst sched.now) }
-        ensures searched { IfOk result
-            (IsSearched self (option_map (λ sched. sched.now) given.entry) (K.view sink.old).written (K.view sink.new).written) }
+    /// its own. No answer ends later than what the search begins with. After `WriteFault` a part of a tree's text was
+    /// written, from its front.
+    pub fn run<K: Sink>(self, sink: &mut K) -> Result<Done, WriteFault>
+        ensures searched { IfOk result (IsSearched self (K.view sink.old).written (K.view sink.new).written) }
 
         // What holds whether the sink tells its bytes or not.
-        ensures sound { IfOk result (IsSound self (option_map (λ sched. sched.now) given.entry)) }
+        ensures sound { IfOk result (IsSound self) }
 
         ensures cut { OnErr result
             (IsCutOff self.inst (K.view sink.old).written (K.view sink.new).written) }
@@ -119,13 +127,10 @@ impl Search {
         ensures beside_stays { beside (K.view sink.new) ≡ beside (K.view sink.old) }
     {
         let Search {
-            mut roots,
-            incumbent,
-            path,
-            limit,
+            roots,
+            mut progress,
         } = self;
         let cranes = roots.instance().crane_count();
-        let mut progress = begin(given, &mut roots, incumbent, path, limit);
         let first = progress.incumbent_end;
         roots.write(&mut progress, sink)?;
         Ok(told(progress, first, cranes))

@@ -3,7 +3,6 @@ use Rattle.std.proofs.Common.{◌≡◌, ℕ, List, Option, None, Some, ◌⊎�
 use Rattle.std.specs.FinMap.{insert}
 use Rattle.std.specs.Io.KnownBytes.{append_known}
 use Rattle.qc_io.specs.Outside.{Beside, Files, View, begun, beside, finished, with_file}
-use Rattle.qc_model.specs.declared.schedule.Slot.{Slot}
 use Rattle.qc_search.specs.Run.{DoneView, IsSound, SearchView}
 use Rattle.qc_search.specs.Run.{IsSearched as Searched}
 use Rattle.qc_tree.specs.Trees.{tree_text}
@@ -60,34 +59,23 @@ held_left (Some held) after name text e = e
 -- ---- the tree's file
 
 -- the search ran, and its file was finished
-pub tree_stored : (search : SearchView) (given : Option (List Slot)) (name : List ℕ)
-    (before after : Option Files)
-    (written now : Option (List ℕ)) (done : DoneView)
-    → (ran : Searched search given written now done) → IsSound search given done
+pub tree_stored : (search : SearchView) (name : List ℕ) (before after : Option Files) (written now : Option (List ℕ))
+    (done : DoneView) → (ran : Searched search written now done) → IsSound search done
     → after ≡ with_file before name (tree_text search.inst ran.tree)
-    → IfSome before (λ held. IsTreeStored search given name held after done)
-tree_stored search given name None after written now done ran sound e = tt
-tree_stored search given name (Some held) after written now done ran sound e = record {
+    → IfSome before (λ held. IsTreeStored search name held after done)
+tree_stored search name None after written now done ran sound e = tt
+tree_stored search name (Some held) after written now done ran sound e = record {
   tree = ran.tree;
-  came = record {
-    first = ran.first;
-    begins = ran.begins;
-    given_told = ran.told;
-    run = ran.run;
-    bound = ran.bound;
-    branched = ran.branched;
-    sound = sound;
-  };
+  came = record { run = ran.run; bound = ran.bound; branched = ran.branched; sound = sound };
   files = e;
 }
 
 -- the search ran, and its file couldn't be finished
-pub tree_left : (search : SearchView) (given : Option (List Slot)) (name : List ℕ) (before after : Option Files)
-    (written now : Option (List ℕ)) (done : DoneView)
-    → (ran : Searched search given written now done) → IsSound search given done
+pub tree_left : (search : SearchView) (name : List ℕ) (before after : Option Files) (written now : Option (List ℕ))
+    (done : DoneView) → (ran : Searched search written now done) → IsSound search done
     → (after ≡ before) ⊎ (after ≡ with_file before name (tree_text search.inst ran.tree))
-    → IfSome before (λ held. IsTreeLeft search given name held after)
-tree_left search given name None after written now done ran sound e = tt
-tree_left search given name (Some held) after written now done ran sound (inl same) = inl same
-tree_left search given name (Some held) after written now done ran sound (inr e) =
-    inr (done, tree_stored search given name (Some held) after written now done ran sound e)
+    → IfSome before (λ held. IsTreeLeft search name held after)
+tree_left search name None after written now done ran sound e = tt
+tree_left search name (Some held) after written now done ran sound (inl same) = inl same
+tree_left search name (Some held) after written now done ran sound (inr e) =
+    inr (done, tree_stored search name (Some held) after written now done ran sound e)

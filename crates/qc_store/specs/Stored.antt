@@ -18,14 +18,13 @@ abbrev pub with_plan : Files → List ℕ → InstanceView → Option (List Slot
 with_plan held name inst None = held
 with_plan held name inst (Some sched) = insert held name (plan_text inst sched)
 
--- the search was given this schedule or none and came to this, and the file of this name holds its tree
-pub record IsTreeStored (search : SearchView) (given : Option (List Slot)) (name : List ℕ) (held : Files)
-    (now : Option Files) (done : DoneView) : Type 0 where
+-- the search came to this, and the file of this name holds its tree
+pub record IsTreeStored (search : SearchView) (name : List ℕ) (held : Files) (now : Option Files) (done : DoneView)
+    : Type 0 where
   pub tree : Tree
-  pub came : IsOutcome search.inst search.nodes given tree done
+  pub came : IsOutcome search tree done
   pub files : now ≡ Some (with_tree held name search.inst tree)
 
 -- the files are as they were, or the tree of what the search came to is stored
-abbrev pub IsTreeLeft : SearchView → Option (List Slot) → List ℕ → Files → Option Files → Type 0
-IsTreeLeft search given name held now =
-    (now ≡ Some held) ⊎ ((done : DoneView) × IsTreeStored search given name held now done)
+abbrev pub IsTreeLeft : SearchView → List ℕ → Files → Option Files → Type 0
+IsTreeLeft search name held now = (now ≡ Some held) ⊎ ((done : DoneView) × IsTreeStored search name held now done)

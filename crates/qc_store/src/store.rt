@@ -1,11 +1,10 @@
 //! The storing of a search: its tree, and then the plan of the best schedule. Each file is whole or as it was.
-ghost use Rattle.std.specs.Prelude.{◌≡◌, ◌⊎◌, Ok, Some, IfOk, IfSome, OnOk, OnErr, option_map};
+ghost use Rattle.std.specs.Prelude.{◌≡◌, ◌⊎◌, Ok, Some, IfOk, IfSome, OnOk, OnErr};
 ghost use Rattle.std.specs.FinMap.{insert};
 ghost use Rattle.qc_gantt.specs.Plan.{HasShortEnds};
 ghost use Rattle.qc_gantt.specs.PlanText.{plan_text};
 ghost use Rattle.qc_io.specs.Writes.{Counts};
 ghost use Rattle.qc_model.specs.Judge.{IsJudgeable};
-ghost use Rattle.qc_model.specs.OneWay.{IsAllowed};
 ghost use Rattle.qc_search.specs.Run.{IsSound};
 ghost use Rattle.qc_store.specs.Outcome.{IsReread};
 ghost use Rattle.qc_store.specs.Stored.{IsTreeLeft, IsTreeStored, with_plan};
@@ -15,21 +14,13 @@ use qc_io::{Shelf, WriteFault};
 use qc_model::{Instance, Schedule};
 use qc_search::{Done, Search};
 
-/// Runs the search, which is given this schedule or none, and makes the tree's file of what it writes.
-pub fn store_tree<S: Shelf>(
-    search: Search,
-    given: Option<&Schedule>,
-    name: &str,
-    shelf: &mut S,
-) -> Result<Done, WriteFault>
-    requires judgeable { IfSome given (λ sched. IsJudgeable search.inst sched.now) }
-    requires allowed { IfSome given (λ sched. IsAllowed search.inst sched.now) }
+/// Runs the search, and makes the tree's file of what it writes.
+pub fn store_tree<S: Shelf>(search: Search, name: &str, shelf: &mut S) -> Result<Done, WriteFault>
     ensures ok { IfOk result (λ done. IfSome (S.Sink.view shelf.old).files (λ held.
-        IsTreeStored search (option_map (λ sched. sched.now) given.entry) name.now held
-        (S.Sink.view shelf.new).files done)) }
+        IsTreeStored search name.now held (S.Sink.view shelf.new).files done)) }
     ensures err { OnErr result (IfSome (S.Sink.view shelf.old).files (λ held.
-        IsTreeLeft search (option_map (λ sched. sched.now) given.entry) name.now held (S.Sink.view shelf.new).files)) }
-    ensures sound { IfOk result (IsSound search (option_map (λ sched. sched.now) given.entry)) }
+        IsTreeLeft search name.now held (S.Sink.view shelf.new).files)) }
+    ensures sound { IfOk result (IsSound search) }
     ensures counts { Counts (S.Sink.view shelf.old).faults (S.Sink.view shelf.new).faults result }
     ensures read_faults { (S.Sink.view shelf.new).read_faults ≡ (S.Sink.view shelf.old).read_faults }
 {
@@ -37,7 +28,7 @@ pub fn store_tree<S: Shelf>(
         drop(search);
         return Err(WriteFault);
     };
-    let done = search.run(given, shelf)?;
+    let done = search.run(shelf)?;
     shelf.finish()?;
     Ok(done)
 }

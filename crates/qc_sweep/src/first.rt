@@ -5,12 +5,13 @@ ghost use Rattle.qc_model.specs.Seen.{seen};
 ghost use Rattle.qc_sweep.specs.Hunts.{AreParts};
 ghost use Rattle.qc_sweep.specs.Plans.{IsFirstPlan};
 
+use crate::going::Going;
 use crate::grain::{grain, up_to_grain};
 use crate::hunt::{Hunt, Parts, trial};
 use crate::schedule::{better, schedule_of};
 use crate::split::split;
 use qc_dist::in_reach;
-use qc_model::{Direction, Instance, Schedule, mirror};
+use qc_model::{Direction, Instance, mirror};
 use qc_num::{OutOfMemory, Tick};
 use qc_part::Part;
 use std::alloc::Global;
@@ -81,7 +82,7 @@ fn split_plan(
     inst: &Instance,
     part: &Part,
     way: Direction,
-) -> Result<Option<Schedule>, OutOfMemory>
+) -> Result<Option<Going>, OutOfMemory>
     requires { part.now ≡ seen inst.now way }
     ensures { IfOk result (λ found. IfSome found (IsFirstPlan inst.now)) }
 {
@@ -172,7 +173,7 @@ fn plan_of(
     inst: &Instance,
     parts: &Parts,
     effort: usize,
-) -> Result<Option<Schedule>, OutOfMemory>
+) -> Result<Option<Going>, OutOfMemory>
     requires { AreParts inst.now parts.now }
     ensures { IfOk result (λ found. IfSome found (IsFirstPlan inst.now)) }
 {
@@ -187,12 +188,8 @@ fn plan_of(
 }
 
 /// A schedule for a search to begin with, found with at most so much effort: of so many states of the
-/// sweeps the children are made. It goes one way. `None` says nothing.
-pub fn first_plan(
-    alloc: Global,
-    inst: &Instance,
-    effort: u32,
-) -> Result<Option<Schedule>, OutOfMemory>
+/// sweeps the children are made. `None` says nothing.
+pub fn first_plan(alloc: Global, inst: &Instance, effort: u32) -> Result<Option<Going>, OutOfMemory>
     requires { effort ≤ 10000000 }
     ensures { IfOk result (λ found. IfSome found (IsFirstPlan inst.now)) }
 {

@@ -5,9 +5,10 @@ ghost use Rattle.qc_model.specs.Seen.{seen};
 ghost use Rattle.qc_sweep.specs.Hunts.{AreParts};
 ghost use Rattle.qc_sweep.specs.Plans.{IsFirstPlan};
 
+use crate::going::Going;
 use crate::schedule::{better, schedule_of};
 use crate::sweep::sweep;
-use qc_model::{Direction, Instance, Schedule};
+use qc_model::{Direction, Instance};
 use qc_num::{OutOfMemory, Tick};
 use qc_part::Part;
 use std::alloc::Global;
@@ -28,7 +29,7 @@ pub(crate) struct Hunt {
     /// The least end of what a sweep found, where pairs that are apart or ordered don't count.
     pub(crate) cap: Option<Tick>,
     /// The best schedule.
-    pub(crate) best: Option<Schedule>,
+    pub(crate) best: Option<Going>,
     /// Of how many states the children may still be made.
     pub(crate) effort: usize,
 }

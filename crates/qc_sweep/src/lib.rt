@@ -1,12 +1,13 @@
 //! A first plan for the search: narrow sweeps over the pairs of a hatch and a crane, and splits of
 //! whole hatches.
 //!
-//! A schedule that `first_plan` gives was judged: it goes one way, and ends at a tick of at most 12
-//! digits. How it is found, and how good it is, is promised by nothing.
+//! A schedule that `first_plan` gives was judged: it goes one way, that which it is given with, and ends
+//! at a tick of at most 12 digits. How it is found, and how good it is, is promised by nothing.
 #![tactic(auto)]
 
 mod chosen;
 mod first;
+mod going;
 mod grain;
 mod hunt;
 mod layer;
@@ -17,3 +18,4 @@ mod sweep;
 mod trail;
 
 pub use first::first_plan;
+pub use going::Going;

@@ -7,6 +7,7 @@ ghost use Rattle.qc_model.specs.Nodes.{HasStarts, IsSettled, assigned};
 ghost use Rattle.qc_model.specs.Seen.{seen};
 ghost use Rattle.qc_sweep.specs.Plans.{IsFirstPlan};
 
+use crate::going::Going;
 use qc_dist::in_reach;
 use qc_model::{
     Decision, Direction, Instance, MOST_START, Pair, Schedule, Slot, direction_of, ends,
@@ -123,15 +124,17 @@ fn written(
     Ok(schedule)
 }
 
-/// The schedule, where it goes one way and ends at a tick of at most twelve digits.
-fn judged(inst: &Instance, schedule: Schedule) -> Option<Schedule>
-    requires { IsJudgeable inst.now schedule }
+/// The schedule with its direction, where it goes one way and ends at a tick of at most twelve digits.
+fn judged(inst: &Instance, sched: Schedule) -> Option<Going>
+    requires { IsJudgeable inst.now sched }
     ensures { IfSome result (IsFirstPlan inst.now) }
 {
-    if ends(inst, &schedule) <= MOST_START && direction_of(inst, &schedule).is_ok() {
-        Some(schedule)
-    } else {
-        None
+    if ends(inst, &sched) > MOST_START {
+        return None;
+    }
+    match direction_of(inst, &sched) {
+        Ok(way) => Some(Going { sched, way }),
+        Err(_) => None,
     }
 }
 
@@ -143,7 +146,7 @@ pub(crate) fn schedule_of(
     way: Direction,
     turned: &Instance,
     cranes: &[Option<u16>],
-) -> Result<Option<Schedule>, OutOfMemory>
+) -> Result<Option<Going>, OutOfMemory>
     requires { turned.now ≡ seen inst.now way }
     ensures { IfOk result (λ found. IfSome found (IsFirstPlan inst.now)) }
 {
@@ -159,7 +162,7 @@ fn schedule_from_undecided(
     starts: &mut Starts,
     turned: &Instance,
     cranes: &[Option<u16>],
-) -> Result<Option<Schedule>, OutOfMemory>
+) -> Result<Option<Going>, OutOfMemory>
     requires turned { turned.now ≡ seen inst.now way }
     requires starts { starts.old.inst ≡ turned.now }
     requires none { (j : ℕ) → assigned starts.old.decisions j ≡ None }
@@ -174,18 +177,14 @@ fn schedule_from_undecided(
 
 /// Of two schedules, where there are any, the one that ends first, and the first of both where they
 /// end alike.
-pub(crate) fn better(
-    inst: &Instance,
-    one: Option<Schedule>,
-    other: Option<Schedule>,
-) -> Option<Schedule>
+pub(crate) fn better(inst: &Instance, one: Option<Going>, other: Option<Going>) -> Option<Going>
     requires one { IfSome one (IsFirstPlan inst.now) }
     requires other { IfSome other (IsFirstPlan inst.now) }
     ensures { IfSome result (IsFirstPlan inst.now) }
 {
     match (one, other) {
         (Some(one), Some(other)) => {
-            if ends(inst, &other) < ends(inst, &one) {
+            if ends(inst, &other.sched) < ends(inst, &one.sched) {
                 Some(other)
             } else {
                 Some(one)

@@ -15,7 +15,7 @@ use Rattle.qc_model.specs.declared.schedule.Slot.{Slot}
 use Rattle.qc_model.specs.Instance.{InstanceView}
 use Rattle.qc_model.specs.Judge.{IsJudgeable}
 use Rattle.qc_model.specs.Rules.{ends}
-use Rattle.qc_search.specs.Run.{DoneView}
+use Rattle.qc_search.specs.Run.{DoneView, SearchView}
 use Rattle.qc_ship.specs.declared.fault.ShipFault.{ShipFault}
 use Rattle.qc_ship.specs.Ship.{ShipView}
 use Rattle.qc_ship.specs.ShipFile.{ship_of}
@@ -41,7 +41,7 @@ use Rattle.qc_run.proofs.ToldLemmas.{cut_told, memory_told, never_usage, of_stat
 use Rattle.qc_trial.specs.declared.made.Made.{Made}
 use Rattle.qc_trial.specs.Account.{IsMaking, IsMakingTold, IsTrialRun, TrialPromises}
 use Rattle.qc_trial.specs.Made.{made_branchings, made_due}
-use Rattle.qc_trial.specs.Stored.{AreStored, IsPlanStored}
+use Rattle.qc_trial.specs.Stored.{AreStored, IsPlanStored, IsSearchFor}
 use Rattle.qc_trial.specs.Texts.{made_text}
 
 -- ---- what is made
@@ -91,22 +91,29 @@ module _ (inst : InstanceView) (tree : Tree) (held mid after : Files)
   }
 
 -- the tree was stored, and then the plan
-pub are_stored : (inst : InstanceView) (given : Option (List Slot)) (before mid after : Option Files)
-    (done : DoneView)
-    → IfSome before (λ held. IsSearchStored (record { inst = inst; nodes = made_branchings }) given
-    (codes "tree") held mid done)
+pub are_stored : (inst : InstanceView) (search : SearchView) → IsSearchFor inst search
+    → (before mid after : Option Files) (done : DoneView)
+    → IfSome before (λ held. IsSearchStored search (codes "tree") held mid done)
     → IfSome mid (λ held. after ≡ Some (with_plan held (codes "plan") inst done.best))
     → IfSome done.best (λ sched. HasShortEnds inst sched → plan_in inst (plan_text inst sched) ≡ Ok sched)
     → IfSome before (λ held. IsSomeAnd after (λ files. AreStored inst files done))
-are_stored inst given None mid after done stored wrote reread = tt
-are_stored inst given (Some held) None after done stored wrote reread = absurd (cc stored.files)
-are_stored inst given (Some held) (Some now) after done stored wrote reread =
+are_stored inst search search_is None mid after done stored wrote reread = tt
+are_stored inst search search_is (Some held) None after done stored wrote reread = absurd (cc stored.files)
+are_stored inst search search_is (Some held) (Some now) after done found_stored wrote reread =
+    let stored = subst (λ (s : SearchView). IsSearchStored s (codes "tree") held (Some now) done) search_is.is found_stored in
     let is = same_Some _ _ stored.files in
     let sound = stored.came.sound in
     let files : Files = with_plan now (codes "plan") inst done.best in
     subst (λ (o : Option Files). IsSomeAnd o (λ files. AreStored inst files done)) (sym wrote) (record {
       tree = stored.tree;
-      found = record { found = given; given = given; chosen = refl; came = stored.came };
+      found = record {
+        found = search_is.found;
+        own_first = None;
+        own_offered = refl;
+        first = search.first;
+        offered = search_is.offered;
+        came = stored.came;
+      };
       tree_stored = record {
         is_tree = stored.came.run.is_tree;
         text = still_there inst stored.tree held now files is done.best refl;

@@ -1,5 +1,5 @@
 -- inner: what a search stores on a shelf of its own, and what a check of that says.
-use Rattle.std.specs.Prelude.{◌≡◌, ℕ, List, None, Some, IfSome, codes, nat_le, if◌then◌else◌}
+use Rattle.std.specs.Prelude.{◌≡◌, ℕ, List, Option, None, Some, IfSome, codes, nat_le, if◌then◌else◌}
 use Rattle.std.specs.FinMap.{get}
 use Rattle.qc_gantt.specs.PlanText.{plan_text}
 use Rattle.qc_io.specs.Outside.{Files}
@@ -7,12 +7,18 @@ use Rattle.qc_num.specs.declared.bound.Bound.{Bound}
 use Rattle.qc_num.specs.declared.bound.Bound.TheVariants.{Least, Never}
 use Rattle.qc_model.specs.declared.schedule.Slot.{Slot}
 use Rattle.qc_model.specs.Instance.{InstanceView}
-use Rattle.qc_search.specs.Run.{DoneView}
+use Rattle.qc_search.specs.Run.{DoneView, SearchView}
 use Rattle.qc_tree.specs.Trees.{IsTree, Tree, tree_text}
-use Rattle.qc_store.specs.Outcome.{IsFound, IsReread}
+use Rattle.qc_store.specs.Outcome.{IsFound, IsReread, WasOffered}
 use Rattle.qc_trial.specs.declared.made.Verdict.{Verdict}
 use Rattle.qc_trial.specs.declared.made.Verdict.TheVariants as verdict
 use Rattle.qc_trial.specs.Made.{made_branchings}
+
+-- the search is one of the instance, and was offered a schedule, if any was found
+pub record IsSearchFor (inst : InstanceView) (search : SearchView) : Type 0 where
+  pub is : search ≡ record { inst = inst; nodes = made_branchings; first = search.first }
+  pub found : Option (List Slot)
+  pub offered : WasOffered inst found None search.first
 
 -- the tree is one of the instance, and stands in its file
 pub record IsTreeStored (inst : InstanceView) (files : Files) (tree : Tree) : Type 0 where

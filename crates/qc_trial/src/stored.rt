@@ -8,7 +8,7 @@ ghost use Rattle.qc_model.specs.OneWay.{IsAllowed};
 ghost use Rattle.qc_model.specs.Rules.{ends};
 ghost use Rattle.qc_tree.specs.Trees.{NoneEarlier, Tree, tree_value};
 ghost use Rattle.qc_trial.specs.Made.{verdict_of};
-ghost use Rattle.qc_trial.specs.Stored.{AreStored, IsPlanStored, IsTreeStored, verdict_alone, verdict_at};
+ghost use Rattle.qc_trial.specs.Stored.{AreStored, IsPlanStored, IsSearchFor, IsTreeStored, verdict_alone, verdict_at};
 
 use crate::made::Verdict;
 use qc_gantt::{PlanError, read_plan};
@@ -29,7 +29,19 @@ const PLAN: &str = "plan";
 
 const TREE: &str = "tree";
 
-/// Looks for a first plan of the instance and searches it, and stores its tree and the plan of the best schedule.
+/// A search of the instance, which is offered a first plan, if any is found.
+fn search_for(alloc: Global, inst: &Instance) -> Result<Search, OutOfMemory>
+    requires { inst.now.turn ≡ OneWay }
+    ensures { IfOk result (IsSearchFor inst.now) }
+{
+    let mut search = Search::open(alloc, inst, BRANCHINGS)?;
+    if let Some(found) = first_plan(alloc, inst, EFFORT)? {
+        search.offer(&found.sched, found.way);
+    }
+    Ok(search)
+}
+
+/// Searches the instance, and stores its tree and the plan of the best schedule.
 pub(crate) fn store_search<S: Shelf>(
     alloc: Global,
     inst: &Instance,
@@ -39,9 +51,8 @@ pub(crate) fn store_search<S: Shelf>(
     ensures { IfOk result (λ done. IfSome (S.Sink.view shelf.old).files (λ held.
         IsSomeAnd (S.Sink.view shelf.new).files (λ files. AreStored inst.now files done))) }
 {
-    let swept = first_plan(alloc, inst, EFFORT)?;
-    let search = Search::open(alloc, inst, BRANCHINGS)?;
-    let Ok(done) = store_tree(search, swept.as_ref(), TREE, shelf) else {
+    let search = search_for(alloc, inst)?;
+    let Ok(done) = store_tree(search, TREE, shelf) else {
         return Err(OutOfMemory);
     };
     match store_best(inst, &done, PLAN, shelf) {

@@ -4,15 +4,15 @@ use Rattle.qc_run.specs.Due.{own_job_due}
 use Rattle.qc_run.specs.Inputs.{Names, names_of}
 use Rattle.qc_run.specs.Steps.{ComesTo, IsStep}
 use Rattle.qc_plan_command.specs.Asked.{planning}
-use Rattle.qc_plan_command.proofs.StoreLemmas.{over_read, own_broken}
+use Rattle.qc_plan_command.proofs.StoreLemmas.{over_read, own_broken, seen_allowed}
 use Rattle.qc_plan_command.proofs.command.serve.Goals as goal
 
-pub returns-in-Some-clause-serves : goal.returns-in-Some-clause-serves
-returns-in-Some-clause-serves g c =
+pub returns-in-Err-clause-serves : goal.returns-in-Err-clause-serves
+returns-in-Err-clause-serves g c =
     let view = g.S.Sink.view in
     own_broken (planning c.args.asked.now) (names_of c.inputs.result) (view c.args.shelf.now)
-    (view c.read_own_job.new.shelf) c.in_ok-job.job c.in-Some.broken c.inputs.ensures c.in_ok-job.ensures.step
-    c.in_ok-job.ensures.turn c.in-Some.ensures.some
+    (view c.read_own_job.new.shelf) c.in_ok-job.job c.in-Err.broken c.inputs.ensures c.in_ok-job.ensures.step
+    c.in_ok-job.ensures.turn c.in-Err.ensures.broken
 
 pub plan_job-requires-clause-due : goal.plan_job-requires-clause-due
 plan_job-requires-clause-due g c =
@@ -29,3 +29,8 @@ returns-clause-serves g c =
     over_read (planning c.args.asked.now) (view c.args.shelf.now) (view c.read_own_job.new.shelf)
     (view c.plan_job.new.shelf) step.files step.made step.faults step.ok.0 c.plan_job.result
     c.plan_job.ensures.serves
+
+pub plan_job-requires-clause-allowed : goal.plan_job-requires-clause-allowed
+plan_job-requires-clause-allowed g c =
+    let job = c.in_ok-job.job in
+    seen_allowed job.inst c.in-Ok.way job.own c.in-Ok.ensures.seen

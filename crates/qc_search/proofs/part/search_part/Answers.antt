@@ -4,7 +4,7 @@ use Rattle.qc_dist.specs.Node.{Node}
 use Rattle.qc_model.specs.declared.decision.Decision.{Decision}
 use Rattle.qc_model.specs.Instance.{InstanceView}
 use Rattle.qc_model.specs.Nodes.{IsInReach}
-use Rattle.qc_search.specs.Progress.{WritesNodes}
+use Rattle.qc_search.specs.Progress.{IsMet, WritesNodes}
 use Rattle.qc_search.specs.Walk.{WereMade, from_node}
 use Rattle.qc_search.proofs.DescentLemmas.{made_in_reach}
 use Rattle.qc_search.proofs.NodesLemmas.{nodes_then, none_written, on_fault_whole}
@@ -25,45 +25,46 @@ loop-child-init g c =
           (none_written (g.K.Sink.view c.args.sink.now) ([] ∷ []) c.args.progress.now);
     }
 
+pub visit-requires-clause-met : goal.visit-requires-clause-met
+visit-requires-clause-met g c =
+    let inv = c.loop-child.invariant in
+    subst (λ (n : Node). IsMet n c.loop-child.progress) (sym c.starts.ensures.same) (record {
+      valid = c.starts.ensures.valid;
+      in_reach = subst (λ (i : InstanceView). IsInReach i c.loop-child.node.decisions) (sym inv.same)
+          (made_in_reach c.args.node.now.inst c.loop-child.node.decisions inv.made);
+      count = inv.count ∙ sym (ap (λ (i : InstanceView). length i.tasks) inv.same);
+      room = inv.room;
+      few = inv.few;
+    })
+
 pub visit-requires-clause-crew : goal.visit-requires-clause-crew
 visit-requires-clause-crew g c =
     subst (λ (n : Node). IsCrewOf c.crew.result.now n.inst n.decisions) (sym c.starts.ensures.same) c.crew.ensures
-
-pub visit-requires-clause-count : goal.visit-requires-clause-count
-visit-requires-clause-count g c =
-    c.loop-child.invariant.count
-    ∙ sym (ap (λ (i : InstanceView). length i.tasks) (ap (λ (n : Node). n.inst) c.starts.ensures.same ∙ c.loop-child.invariant.same))
-
-pub visit-requires-clause-in_reach : goal.visit-requires-clause-in_reach
-visit-requires-clause-in_reach g c =
-    subst (λ (n : Node). IsInReach n.inst n.decisions) (sym c.starts.ensures.same)
-    (subst (λ (i : InstanceView). IsInReach i c.loop-child.node.decisions) (sym c.loop-child.invariant.same)
-    (made_in_reach c.args.node.now.inst c.loop-child.node.decisions c.loop-child.invariant.made))
 
 pub returns-in_err-child : goal.returns-in_err-child
 returns-in_err-child g c =
     on_fault_whole _ c.from_residual.result c.from_residual.ensures.0
     (nodes_then c.loop-child.invariant.goes
-    (rw c.loop-child.invariant.same at (rw c.starts.ensures.same at c.in_err-child.ensures.goes)))
+    (rw c.loop-child.invariant.same at (rw c.starts.ensures.same at c.in_err-child.ensures.line)))
 
 pub returns-in_err-advance : goal.returns-in_err-advance
 returns-in_err-advance g c =
     let visited = nodes_then c.loop-child.invariant.goes
-    (rw c.loop-child.invariant.same at (rw c.starts.ensures.same at c.in_ok-child.ensures.goes)) in
+    (rw c.loop-child.invariant.same at (rw c.starts.ensures.same at c.in_ok-child.ensures.line)) in
     on_fault_whole _ c.from_residual-in_err-advance.result c.from_residual-in_err-advance.ensures.0
     (nodes_then visited (rw c.loop-child.invariant.same at (c.in_err-advance.ensures.goes c.args.way)))
 
 pub returns-then-not-branch : goal.returns-then-not-branch
 returns-then-not-branch g c =
     let visited = nodes_then c.loop-child.invariant.goes
-    (rw c.loop-child.invariant.same at (rw c.starts.ensures.same at c.in_ok-child.ensures.goes)) in
+    (rw c.loop-child.invariant.same at (rw c.starts.ensures.same at c.in_ok-child.ensures.line)) in
     nodes_then visited (rw c.if-not-branch.true at (rw c.loop-child.invariant.same at
     (c.in_ok-advance.ensures.goes c.args.way)))
 
 pub loop-child-preserved : goal.loop-child-preserved
 loop-child-preserved g c =
     let visit = c.in_ok-child.ensures in
-    let went = rw c.loop-child.invariant.same at (rw c.starts.ensures.same at visit.goes) in
+    let went = rw c.loop-child.invariant.same at (rw c.starts.ensures.same at visit.line) in
     let advance = c.in_ok-advance.ensures in
     let onward = rw c.if-not-branch.false at (rw c.loop-child.invariant.same at (advance.goes c.args.way)) in
     record {

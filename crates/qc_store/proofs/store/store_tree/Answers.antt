@@ -1,4 +1,3 @@
-use Rattle.std.specs.Prelude.{option_map}
 use Rattle.qc_io.proofs.Pieces.{on_err}
 use Rattle.qc_tree.specs.Trees.{tree_text}
 use Rattle.qc_store.proofs.StoreLemmas.{left_file, tree_left}
@@ -9,7 +8,7 @@ returns-in_err-finish-clause-err g c =
     let view = g.S.Sink.view in
     let ran = c.in_ok-done.ensures.searched in
     on_err c.from_residual-in_err-finish.result
-    (tree_left c.args.search (option_map (λ sched. sched.now) c.args.given) c.args.name.now (view c.args.shelf.now).files (view c.finish.new.self).files
+    (tree_left c.args.search c.args.name.now (view c.args.shelf.now).files (view c.finish.new.self).files
     (view c.create.new.self).written (view c.run.new.sink).written c.in_ok-done.done ran c.in_ok-done.ensures.sound
     (left_file (view c.args.shelf.now) (view c.create.new.self) (view c.run.new.sink) (view c.finish.new.self)
     c.args.name.now (tree_text c.args.search.inst ran.tree) c.in-Ok.ensures.files_stay c.in-Ok.ensures.ok_made

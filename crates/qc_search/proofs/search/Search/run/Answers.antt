@@ -1,7 +1,8 @@
-use Rattle.std.proofs.Common.{◌≡◌, ◌<◌, ◌∙◌, ℕ, All, ap, sym, subst, option_map}
-use Rattle.qc_model.specs.declared.schedule.Slot.{Slot}
-use Rattle.qc_search.specs.Run.{IsCutOff, IsSearched, IsSound, SearchView}
+use Rattle.std.proofs.Common.{◌≡◌, ◌<◌, ◌∙◌, ℕ, All, ap, sym, subst}
 use Rattle.qc_io.proofs.Pieces.{on_err}
+use Rattle.qc_model.specs.declared.schedule.Slot.{Slot}
+use Rattle.qc_search.specs.Progress.{known_best}
+use Rattle.qc_search.specs.Run.{IsCutOff, IsSearched, IsSound, SearchView}
 use Rattle.qc_search.proofs.NodesLemmas.{none_asked}
 use Rattle.qc_search.proofs.RunLemmas.{not_ok, told_of, told_with, went_cranes, went_searched, went_sound}
 use Rattle.qc_search.proofs.search.Search.run.Goals as goal
@@ -9,57 +10,52 @@ use Rattle.qc_search.proofs.search.Search.run.Goals as goal
 pub told-requires : goal.told-requires
 told-requires g c = λ end e.
     let home = c.self.inside.roots in
-    let b = c.begin-progress.ensures.begins in
-    let w = (rw c.begin-progress.ensures.stays at c.in_ok-write.ensures) b.first b.progress in
+    let old = c.self.inside.progress in
+    let w = c.in_ok-write.ensures (known_best home old) c.self.invariant.progress in
     let count = rw c.instance.ensures.same at c.crane_count-cranes.ensures.count in
     subst (λ (n : ℕ). All (λ (s : Slot). s.crane < n) c.write.new.progress.incumbent) (sym count)
-    (went_cranes home c.instance.ensures.valid (option_map (λ sched. sched.now) c.args.given) c.begin-progress.result
-    c.write.new.progress c.self.inside.limit b w end e)
+    (went_cranes home c.instance.ensures.valid old c.write.new.progress c.self.invariant w end e)
 
 pub returns-clause-searched : goal.returns-clause-searched
 returns-clause-searched g c =
     let home = c.self.inside.roots in
-    let given = option_map (λ sched. sched.now) c.args.given in
+    let old = c.self.inside.progress in
     let now = c.write.new.progress in
-    let old = c.begin-progress.result in
     let before = (g.K.Sink.view c.args.sink.now).written in
     let after = (g.K.Sink.view c.write.new.sink).written in
-    let b = c.begin-progress.ensures.begins in
-    let w = (rw c.begin-progress.ensures.stays at c.in_ok-write.ensures) b.first b.progress in
+    let w = c.in_ok-write.ensures (known_best home old) c.self.invariant.progress in
     let count = rw c.instance.ensures.same at c.crane_count-cranes.ensures.count in
     let told : c.told.result ≡ told_of home old.incumbent_end now =
     c.told.ensures ∙ ap (λ (n : ℕ). told_with n old.incumbent_end now) count in
-    subst (IsSearched c.args.self given before after) (sym told)
-    (subst (λ (s : SearchView). IsSearched s given before after (told_of home old.incumbent_end now)) c.self.view_is
-    (went_searched home c.instance.ensures.valid given old now c.self.inside.limit b w))
+    subst (IsSearched c.args.self before after) (sym told)
+    (subst (λ (s : SearchView). IsSearched s before after (told_of home old.incumbent_end now)) c.self.view_is
+    (went_searched home c.instance.ensures.valid old now c.self.invariant w))
 
 pub returns-clause-sound : goal.returns-clause-sound
 returns-clause-sound g c =
     let home = c.self.inside.roots in
-    let given = option_map (λ sched. sched.now) c.args.given in
+    let old = c.self.inside.progress in
     let now = c.write.new.progress in
-    let old = c.begin-progress.result in
-    let b = c.begin-progress.ensures.begins in
-    let w = (rw c.begin-progress.ensures.stays at c.in_ok-write.ensures) b.first b.progress in
+    let w = c.in_ok-write.ensures (known_best home old) c.self.invariant.progress in
     let count = rw c.instance.ensures.same at c.crane_count-cranes.ensures.count in
     let told : c.told.result ≡ told_of home old.incumbent_end now =
     c.told.ensures ∙ ap (λ (n : ℕ). told_with n old.incumbent_end now) count in
-    subst (IsSound c.args.self given) (sym told)
-    (subst (λ (s : SearchView). IsSound s given (told_of home old.incumbent_end now)) c.self.view_is
-    (went_sound home c.instance.ensures.valid given old now c.self.inside.limit b w))
+    subst (IsSound c.args.self) (sym told)
+    (subst (λ (s : SearchView). IsSound s (told_of home old.incumbent_end now)) c.self.view_is
+    (went_sound home c.instance.ensures.valid old now c.self.invariant w))
 
 pub returns-in_err-write-clause-cut : goal.returns-in_err-write-clause-cut
 returns-in_err-write-clause-cut g c =
-    let b = c.begin-progress.ensures.begins in
-    let w = (rw c.begin-progress.ensures.stays at c.in_err-write.ensures) b.first b.progress in
+    let home = c.self.inside.roots in
+    let w = c.in_err-write.ensures (known_best home c.self.inside.progress) c.self.invariant.progress in
     on_err c.from_residual.result
     (subst (λ (s : SearchView). IsCutOff s.inst (g.K.Sink.view c.args.sink.now).written (g.K.Sink.view c.write.new.sink).written)
     c.self.view_is (record { tree = w.tree; is_tree = w.is_tree; part = w.writes.part }))
 
 pub returns-in_err-write-clause-counts : goal.returns-in_err-write-clause-counts
 returns-in_err-write-clause-counts g c =
-    let b = c.begin-progress.ensures.begins in
-    let w = (rw c.begin-progress.ensures.stays at c.in_err-write.ensures) b.first b.progress in
+    let home = c.self.inside.roots in
+    let w = c.in_err-write.ensures (known_best home c.self.inside.progress) c.self.invariant.progress in
     record {
       unfailed = not_ok _ c.from_residual.result c.from_residual.ensures.0;
       rose = on_err c.from_residual.result w.writes.rose;
@@ -68,21 +64,19 @@ returns-in_err-write-clause-counts g c =
 
 pub returns-in_err-write-clause-beside_stays : goal.returns-in_err-write-clause-beside_stays
 returns-in_err-write-clause-beside_stays g c =
-    let b = c.begin-progress.ensures.begins in
-    let w = (rw c.begin-progress.ensures.stays at c.in_err-write.ensures) b.first b.progress in
-    w.writes.beside_stays
+    let home = c.self.inside.roots in
+    (c.in_err-write.ensures (known_best home c.self.inside.progress) c.self.invariant.progress).writes.beside_stays
 
 pub returns-clause-counts : goal.returns-clause-counts
 returns-clause-counts g c =
-    let b = c.begin-progress.ensures.begins in
-    let w = (rw c.begin-progress.ensures.stays at c.in_ok-write.ensures) b.first b.progress in
+    let home = c.self.inside.roots in
+    let w = c.in_ok-write.ensures (known_best home c.self.inside.progress) c.self.invariant.progress in
     record { unfailed = w.writes.unfailed; rose = tt; never_falls = w.writes.never_falls }
 
 pub returns-clause-beside_stays : goal.returns-clause-beside_stays
 returns-clause-beside_stays g c =
-    let b = c.begin-progress.ensures.begins in
-    let w = (rw c.begin-progress.ensures.stays at c.in_ok-write.ensures) b.first b.progress in
-    w.writes.beside_stays
+    let home = c.self.inside.roots in
+    (c.in_ok-write.ensures (known_best home c.self.inside.progress) c.self.invariant.progress).writes.beside_stays
 
 pub returns-in_err-write-clause-searched : goal.returns-in_err-write-clause-searched
 returns-in_err-write-clause-searched g c = none_asked _ c.from_residual.result c.from_residual.ensures.0

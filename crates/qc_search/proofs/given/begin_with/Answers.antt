@@ -5,12 +5,12 @@ use Rattle.qc_model.specs.Numbers.{most_start}
 use Rattle.qc_model.specs.Rules.{start_of}
 use Rattle.qc_model.specs.Seen.{seen_schedule}
 use Rattle.qc_search.proofs.GivenLemmas.{seen_soon}
-use Rattle.qc_search.proofs.given.tighten_given.Goals as goal
+use Rattle.qc_search.proofs.given.begin_with.Goals as goal
 
 pub tighten-end-requires-clause-soon : goal.tighten-end-requires-clause-soon
 tighten-end-requires-clause-soon c = λ j low.
-    let way = c.way_of-way.result in
+    let way = c.args.way in
     let is = c.see.ensures
-    ∙ ap₂ (λ (i : InstanceView) (s : List Slot). seen_schedule i s way) c.instance-3.ensures.same c.copy_slots.ensures in
+    ∙ ap₂ (λ (i : InstanceView) (s : List Slot). seen_schedule i s way) c.instance-2.ensures.same c.copy_slots.ensures in
     subst (λ (s : List Slot). start_of s j ≤ most_start) (sym is)
     (seen_soon c.args.roots.now c.args.given.now way c.requires.judgeable j low)
