@@ -28,7 +28,7 @@ use crate::report::report;
 use qc_io::{Shelf, Sink, WriteFault};
 use qc_model::{Instance, Schedule};
 use qc_num::Tick;
-use qc_run::{Broken, OwnJob, Status, Stop, broken_by, broken_of, read_own_job, report_stop};
+use qc_run::{Broken, Ended, OwnJob, Stop, broken_by, broken_of, read_own_job, report_stop};
 use qc_search::{Done, Search};
 use qc_store::{store_best, store_tree};
 use std::alloc::Global;
@@ -186,12 +186,12 @@ pub fn plan<S: Shelf, K: Sink>(
     asked: &PlanAsked<'_>,
     shelf: &mut S,
     out: &mut K,
-) -> Status
+) -> Ended
     requires { asked.now.nodes ≤ most_branchings }
     ensures account { IsPlanRun (planning asked.now) (S.Sink.view shelf.old) (S.Sink.view shelf.new)
-        (K.Sink.view out.old) (K.Sink.view out.new) result }
+        (K.Sink.view out.old) (K.Sink.view out.new) result.status }
     ensures promises { PlanPromises (planning asked.now) (S.Sink.view shelf.old) (S.Sink.view shelf.new)
-        (K.Sink.view out.old) (K.Sink.view out.new) result }
+        (K.Sink.view out.old) (K.Sink.view out.new) result.status }
     ensures never_falls { (S.Sink.view shelf.old).faults ≤ (S.Sink.view shelf.new).faults }
     ensures reads_never_fall { (S.Sink.view shelf.old).read_faults ≤ (S.Sink.view shelf.new).read_faults }
 {

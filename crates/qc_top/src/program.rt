@@ -15,7 +15,7 @@ use qc_model::Turn;
 use qc_num::OutOfMemory;
 use qc_picture_command::{Print, print_plan};
 use qc_plan_command::{PlanAsked, plan};
-use qc_run::{Inputs, Refusal, Status, Stop, report_stop, report_text};
+use qc_run::{Ended, Inputs, Refusal, Status, Stop, report_stop, report_text};
 use qc_sheet_command::print_sheet;
 use qc_trial::make;
 use qc_watch_command::watch;
@@ -158,10 +158,10 @@ fn read<S: Shelf, K: Sink>(
     request: &Request<'_>,
     shelf: &mut S,
     out: &mut K,
-) -> Status
+) -> Ended
     requires { OnlyReads (asked_for request.now) }
     ensures account { IsRunOf (asked_for request.now) (S.Sink.view shelf.old) (S.Sink.view shelf.new)
-        (K.Sink.view out.old) (K.Sink.view out.new) result }
+        (K.Sink.view out.old) (K.Sink.view out.new) result.status }
     ensures faults_never_fall { (S.Sink.view shelf.old).faults ≤ (S.Sink.view shelf.new).faults }
     ensures reads_never_fall { (S.Sink.view shelf.old).read_faults ≤ (S.Sink.view shelf.new).read_faults }
 {
@@ -188,10 +188,10 @@ fn serve<S: Shelf, K: Sink>(
     request: &Request<'_>,
     shelf: &mut S,
     out: &mut K,
-) -> Status
+) -> Ended
     requires { KeepsLimits (asked_for request.now) }
     ensures account { IsRunOf (asked_for request.now) (S.Sink.view shelf.old) (S.Sink.view shelf.new)
-        (K.Sink.view out.old) (K.Sink.view out.new) result }
+        (K.Sink.view out.old) (K.Sink.view out.new) result.status }
     ensures faults_never_fall { (S.Sink.view shelf.old).faults ≤ (S.Sink.view shelf.new).faults }
     ensures reads_never_fall { (S.Sink.view shelf.old).read_faults ≤ (S.Sink.view shelf.new).read_faults }
 {
@@ -222,13 +222,13 @@ fn serve<S: Shelf, K: Sink>(
 
 /// Runs the program on the words of a command line, without the program's name, over the files of
 /// the shelf. The report goes to `out`.
-pub fn run<S: Shelf, K: Sink>(alloc: Global, words: &[String], shelf: &mut S, out: &mut K) -> Status
+pub fn run<S: Shelf, K: Sink>(alloc: Global, words: &[String], shelf: &mut S, out: &mut K) -> Ended
     ensures account { IsRun (texts words.now) (S.Sink.view shelf.old) (S.Sink.view shelf.new)
-        (K.Sink.view out.old) (K.Sink.view out.new) result }
+        (K.Sink.view out.old) (K.Sink.view out.new) result.status }
 
     // What follows from it, each said by itself.
     ensures promises { Promises (texts words.now) (S.Sink.view shelf.old) (S.Sink.view shelf.new)
-        (K.Sink.view out.old) (K.Sink.view out.new) result }
+        (K.Sink.view out.old) (K.Sink.view out.new) result.status }
 
     ensures beside_stays { beside (K.Sink.view out.new) ≡ beside (K.Sink.view out.old) }
     ensures faults_never_fall { (S.Sink.view shelf.old).faults ≤ (S.Sink.view shelf.new).faults }

@@ -29,14 +29,14 @@ returns-in-Report-clause-account g c = rw c.in-Report.is (reader_named {reader =
 pub returns-in-Some-clause-account : goal.returns-in-Some-clause-account
 returns-in-Some-clause-account g c =
     rw (c.in-Check.is, c.in-Some.is) (subst (λ (names : Names). IsPlanCheckRun names (g.S.Sink.view c.args.shelf.now) (g.S.Sink.view c.check_plan.new.shelf)
-    (g.K.Sink.view c.args.out.now) (g.K.Sink.view c.check_plan.new.out) c.check_plan.result) (rw (c.in-Check.is, c.in-Some.is) at c.files_of-inputs.ensures) c.check_plan.ensures.account)
+    (g.K.Sink.view c.args.out.now) (g.K.Sink.view c.check_plan.new.out) c.check_plan.result.status) (rw (c.in-Check.is, c.in-Some.is) at c.files_of-inputs.ensures) c.check_plan.ensures.account)
 
 pub returns-in-None-clause-account : goal.returns-in-None-clause-account
 returns-in-None-clause-account g c =
     rw (c.in-Check.is, c.in-None.is) (subst (λ (names : Names). IsTreeRun names (g.S.Sink.view c.args.shelf.now) (g.S.Sink.view c.check_tree.new.shelf)
-    (g.K.Sink.view c.args.out.now) (g.K.Sink.view c.check_tree.new.out) c.check_tree.result) (rw (c.in-Check.is, c.in-None.is) at c.files_of-inputs.ensures) c.check_tree.ensures.account)
+    (g.K.Sink.view c.args.out.now) (g.K.Sink.view c.check_tree.new.out) c.check_tree.result.status) (rw (c.in-Check.is, c.in-None.is) at c.files_of-inputs.ensures) c.check_tree.ensures.account)
 
 pub returns-in-Dispatch-clause-account : goal.returns-in-Dispatch-clause-account
 returns-in-Dispatch-clause-account g c =
     rw c.in-Dispatch.is (subst (λ (names : Names). IsDispatchRun names (g.S.Sink.view c.args.shelf.now) (g.S.Sink.view c.dispatch.new.shelf)
-    (g.K.Sink.view c.args.out.now) (g.K.Sink.view c.dispatch.new.out) c.dispatch.result) (rw c.in-Dispatch.is at c.files_of-inputs.ensures) c.dispatch.ensures.account)
+    (g.K.Sink.view c.args.out.now) (g.K.Sink.view c.dispatch.new.out) c.dispatch.result.status) (rw c.in-Dispatch.is at c.files_of-inputs.ensures) c.dispatch.ensures.account)
