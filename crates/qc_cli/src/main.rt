@@ -68,7 +68,7 @@ where
     }
     let status = ended.status;
     if !is_quiet {
-        say_after(rt, words, status, &mut shelf, out.to().why());
+        say_after(rt, words, &ended, &mut shelf, out.to().why());
     }
     drop(shelf);
     drop(out);
