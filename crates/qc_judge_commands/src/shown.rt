@@ -61,14 +61,14 @@ fn put_shown<K: Sink>(told: Shown, out: &mut K) -> Result<(), WriteFault>
 }
 
 /// Prints the motion of a plan.
-fn report_shown<K: Sink>(told: Shown, out: &mut K) -> Status
+fn report_shown<K: Sink>(told: Shown, out: &mut K) -> Ended
     requires { IsShowReady told }
     ensures { Reports (IsShownPrinted told) (IsShownCut told) status.Done
-        (K.view out.old) (K.view out.new) result }
+        (K.view out.old) (K.view out.new) result.status }
 {
     match put_shown(told, out) {
-        Ok(()) => Status::Done,
-        Err(WriteFault) => Status::WriteFault,
+        Ok(()) => Ended::of(Status::Done),
+        Err(WriteFault) => Ended::of(Status::WriteFault),
     }
 }
 
@@ -80,6 +80,6 @@ pub(crate) fn report<K: Sink>(answer: Showing, out: &mut K) -> Ended
 {
     match answer {
         Showing::Broken(told) => report_broken(told, out),
-        Showing::Shown(told) => Ended::of(report_shown(told, out)),
+        Showing::Shown(told) => report_shown(told, out),
     }
 }

@@ -14,13 +14,13 @@ use qc_tasks::write_tasks;
 use std::alloc::Global;
 
 /// Prints the tasks of an instance.
-fn report_tasks<K: Sink>(inst: &Instance, out: &mut K) -> Status
+fn report_tasks<K: Sink>(inst: &Instance, out: &mut K) -> Ended
     ensures { Reports (Prints (tasks_text inst.now)) (PrintsPart (tasks_text inst.now)) status.Done
-        (K.view out.old) (K.view out.new) result }
+        (K.view out.old) (K.view out.new) result.status }
 {
     match write_tasks(inst, out) {
-        Ok(()) => Status::Done,
-        Err(WriteFault) => Status::WriteFault,
+        Ok(()) => Ended::of(Status::Done),
+        Err(WriteFault) => Ended::of(Status::WriteFault),
     }
 }
 
@@ -37,7 +37,7 @@ pub fn list_tasks<S: Shelf, K: Sink>(
     ensures reads_never_fall { (S.Sink.view shelf.old).read_faults ≤ (S.Sink.view shelf.new).read_faults }
 {
     match read_instance(alloc, inputs, shelf) {
-        Ok(inst) => Ended::of(report_tasks(&inst, out)),
+        Ok(inst) => report_tasks(&inst, out),
         Err(stop) => report_stop(stop, out),
     }
 }

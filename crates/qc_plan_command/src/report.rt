@@ -135,15 +135,15 @@ fn found_status(kind: Kind) -> Status
 }
 
 /// Prints what is told of a plan that was found.
-fn report_planned<K: Sink>(told: Planned, out: &mut K) -> Status
+fn report_planned<K: Sink>(told: Planned, out: &mut K) -> Ended
     requires { IsReady told }
     ensures { Reports (IsPlanPrinted told) (IsPlanCut told) (found_status told.kind)
-        (K.view out.old) (K.view out.new) result }
+        (K.view out.old) (K.view out.new) result.status }
 {
     let status = found_status(told.kind);
     match put_moved(told, out) {
-        Ok(()) => status,
-        Err(WriteFault) => Status::WriteFault,
+        Ok(()) => Ended::of(status),
+        Err(WriteFault) => Ended::of(Status::WriteFault),
     }
 }
 
@@ -156,7 +156,7 @@ pub(crate) fn report<K: Sink>(answer: PlanAnswer, out: &mut K) -> Ended
     match answer {
         PlanAnswer::WriteFault => report_text(Status::WriteFault, b"WriteFault\n", out),
         PlanAnswer::Broken(told) => report_broken(told, out),
-        PlanAnswer::Planned(told) => Ended::of(report_planned(told, out)),
+        PlanAnswer::Planned(told) => report_planned(told, out),
         PlanAnswer::Unplanned { bound, branched } => {
             report_text(
                 Status::BudgetNone,
