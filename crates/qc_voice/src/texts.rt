@@ -2,112 +2,33 @@
 ghost use Rattle.qc_voice.specs.Frame.{LeavesFiles};
 
 use qc_io::{ReadAll, Shelf, read_all};
-use qc_model::Turn;
 use qc_num::{Bytes, OutOfMemory};
+use qc_run::Inputs;
 use qc_words::Request;
 use std::alloc::Global;
 
 /// The greatest length of a file that is read whole, in bytes.
 const FILE_LIMIT: usize = 8_388_608;
 
-/// The names of the files that a command reads, and of the plan that it writes; and which schedules it asks about.
+/// The names of the files that a command reads, and of the plan that it writes.
 #[derive(Clone, Copy)]
 pub(crate) struct Names<'a> {
-    pub(crate) ship: Option<&'a str>,
-    pub(crate) stow: Option<&'a str>,
-    pub(crate) plan: Option<&'a str>,
-    pub(crate) own: Option<&'a str>,
-    pub(crate) tree: Option<&'a str>,
-    pub(crate) log: Option<&'a str>,
+    pub(crate) read: Inputs<'a>,
     pub(crate) written: Option<&'a str>,
-    pub(crate) turn: Turn,
 }
 
-/// No names.
-fn no_names<'a>() -> Names<'a> {
-    Names {
-        ship: None,
-        stow: None,
-        plan: None,
-        own: None,
-        tree: None,
-        log: None,
-        written: None,
-        turn: Turn::OneWay,
-    }
-}
-
-/// The names of a command that reads a ship file and a list, and a plan where one is named.
-fn of_plan<'a>(ship: &'a str, stow: &'a str, plan: Option<&'a str>) -> Names<'a> {
-    Names {
-        ship: Some(ship),
-        stow: Some(stow),
-        plan,
-        ..no_names()
-    }
-}
-
-/// The names of the files of a command that shows a plan; none for one that reads no file.
-fn of_shown<'a>(request: &Request<'a>) -> Names<'a> {
+/// The names of the files of a request; none where it reads no file.
+pub(crate) fn names_of<'a>(request: &Request<'a>) -> Option<Names<'a>> {
     match *request {
-        Request::Show { ship, stow, plan }
-        | Request::Sheet { ship, stow, plan }
-        | Request::Picture { ship, stow, plan }
-        | Request::Report { ship, stow, plan } => of_plan(ship, stow, Some(plan)),
-        _ => no_names(),
-    }
-}
-
-/// The names of the files of a command that reads a log or shows a plan; none for one that reads no file.
-fn of_logged<'a>(request: &Request<'a>) -> Names<'a> {
-    match *request {
-        Request::Dispatch {
-            ship,
-            stow,
-            plan,
-            log,
-        } => Names {
-            log: Some(log),
-            ..of_plan(ship, stow, Some(plan))
-        },
-        Request::Watch { ship, log } => Names {
-            ship: Some(ship),
-            log: Some(log),
-            ..no_names()
-        },
-        _ => of_shown(request),
-    }
-}
-
-/// The names of the files of a request.
-pub(crate) fn names_of<'a>(request: &Request<'a>) -> Names<'a> {
-    match *request {
-        Request::Plan {
-            turn,
-            ship,
-            stow,
-            plan,
-            own,
-            ..
-        } => Names {
-            turn,
-            own,
-            written: Some(plan),
-            ..of_plan(ship, stow, None)
-        },
-        Request::Check {
-            turn,
-            ship,
-            stow,
-            plan,
-            tree,
-        } => Names {
-            turn,
-            tree: Some(tree),
-            ..of_plan(ship, stow, plan)
-        },
-        Request::Tasks { ship, stow } => of_plan(ship, stow, None),
-        _ => of_logged(request),
+        Request::Reads(_, read) => Some(Names {
+            read,
+            written: None,
+        }),
+        Request::Plans(asked) => Some(Names {
+            read: asked.inputs,
+            written: Some(asked.plan),
+        }),
+        Request::Make { .. } | Request::Help(_) | Request::Version | Request::Usage => None,
     }
 }
 
@@ -184,14 +105,14 @@ impl Drop for Texts {
 pub(crate) fn read_texts<S: Shelf>(
     alloc: Global,
     shelf: &mut S,
-    names: &Names<'_>,
+    inputs: &Inputs<'_>,
 ) -> Result<Texts, OutOfMemory>
     ensures { LeavesFiles (S.Sink.view shelf.old) (S.Sink.view shelf.new) }
 {
-    let ship = read_text(alloc, shelf, names.ship)?;
-    let stow = read_text(alloc, shelf, names.stow)?;
-    let plan = read_text(alloc, shelf, names.plan.or(names.own))?;
-    let log = read_text(alloc, shelf, names.log)?;
+    let ship = read_text(alloc, shelf, Some(inputs.ship))?;
+    let stow = read_text(alloc, shelf, inputs.stow)?;
+    let plan = read_text(alloc, shelf, inputs.plan.or(inputs.own))?;
+    let log = read_text(alloc, shelf, inputs.log)?;
     Ok(Texts {
         ship,
         stow,

@@ -95,17 +95,17 @@ fn say_if_unread(page: &mut Page, word: &str, name: Option<&str>, text: &Text) -
 
 /// Says which file couldn't be read, or is too large: the first, and where the others can be read again a tree's.
 fn say_unread(page: &mut Page, names: &Names<'_>, texts: &Texts) {
-    let _is_said = say_if_unread(page, "SHIP", names.ship, &texts.ship)
-        || say_if_unread(page, "STOW", names.stow, &texts.stow)
-        || say_if_unread(page, "PLAN", names.plan, &texts.plan)
-        || say_if_unread(page, "OWN", names.own, &texts.plan)
-        || say_if_unread(page, "LOG", names.log, &texts.log)
-        || say_if_unread(page, "TREE", names.tree, &Text::Unread);
+    let _is_said = say_if_unread(page, "SHIP", Some(names.read.ship), &texts.ship)
+        || say_if_unread(page, "STOW", names.read.stow, &texts.stow)
+        || say_if_unread(page, "PLAN", names.read.plan, &texts.plan)
+        || say_if_unread(page, "OWN", names.read.own, &texts.plan)
+        || say_if_unread(page, "LOG", names.read.log, &texts.log)
+        || say_if_unread(page, "TREE", names.read.tree, &Text::Unread);
 }
 
 /// Says what is wrong with the list.
 fn say_bad_stow(page: &mut Page, names: &Names<'_>, texts: &Texts) {
-    let (Some(name), Some(bytes)) = (names.stow, texts.stow.bytes()) else {
+    let (Some(name), Some(bytes)) = (names.read.stow, texts.stow.bytes()) else {
         return;
     };
     if let Some(Some(ship)) = page.unless_short(ship_in(page.alloc(), &texts.ship)) {
@@ -115,7 +115,7 @@ fn say_bad_stow(page: &mut Page, names: &Names<'_>, texts: &Texts) {
 
 /// Says what is wrong with the log.
 fn say_bad_log(page: &mut Page, names: &Names<'_>, texts: &Texts) {
-    let (Some(name), Some(bytes)) = (names.log, texts.log.bytes()) else {
+    let (Some(name), Some(bytes)) = (names.read.log, texts.log.bytes()) else {
         return;
     };
     if let Some(plan) = texts.plan.bytes() {
@@ -141,7 +141,7 @@ fn say_what_waits(page: &mut Page, texts: &Texts) {
 
 /// Says what is wrong with the plan, as a table or, where that is in order, as a plan that is worked.
 fn say_bad_plan(page: &mut Page, names: &Names<'_>, texts: &Texts, ended: Status) {
-    let (Some(name), Some(bytes)) = (names.plan.or(names.own), texts.plan.bytes()) else {
+    let (Some(name), Some(bytes)) = (names.read.plan.or(names.read.own), texts.plan.bytes()) else {
         return;
     };
     let Some(Some(inst)) = page.unless_short(instance_of(page.alloc(), texts)) else {
@@ -166,17 +166,15 @@ fn is_in_decimetres(alloc: Global, text: &Text) -> Result<bool, OutOfMemory> {
 
 /// Says what is wrong with the ship file.
 fn say_bad_ship(page: &mut Page, names: &Names<'_>, texts: &Texts) {
-    match (names.ship, texts.ship.bytes()) {
-        (Some(name), Some(bytes)) => say_ship(page, name, bytes),
-        _ => {}
+    if let Some(bytes) = texts.ship.bytes() {
+        say_ship(page, names.read.ship, bytes)
     }
 }
 
 /// Says the notes on the ship file.
 fn say_ship_notes(page: &mut Page, names: &Names<'_>, texts: &Texts) {
-    match (names.ship, texts.ship.bytes()) {
-        (Some(name), Some(bytes)) => say_notes(page, name, bytes),
-        _ => {}
+    if let Some(bytes) = texts.ship.bytes() {
+        say_notes(page, names.read.ship, bytes)
     }
 }
 
@@ -188,7 +186,7 @@ fn say_planless(page: &mut Page, names: &Names<'_>, texts: &Texts, ended: Status
     if ended == Status::BudgetNone {
         return say_spent(page);
     }
-    let inst = turned_instance(page.alloc(), texts, names.turn);
+    let inst = turned_instance(page.alloc(), texts, names.read.turn);
     if let Some(Some(inst)) = page.unless_short(inst) {
         say_infeasible(page, &inst)
     }
@@ -206,11 +204,7 @@ fn say_texts(page: &mut Page, names: &Names<'_>, texts: &Texts, ended: Status) {
             say_bad_plan(page, names, texts, ended);
             say_ship_notes(page, names, texts)
         }
-        Status::OutOfMemory => page
-            .line()
-            .text("the system gave no more memory; no file was changed")
-            .end(),
-        Status::Usage | Status::WriteFault | Status::BadTree => {}
+        Status::Usage | Status::OutOfMemory | Status::WriteFault | Status::BadTree => {}
         Status::Infeasible | Status::BudgetNone => {
             say_ship_notes(page, names, texts);
             say_planless(page, names, texts, ended)
@@ -278,7 +272,7 @@ fn say_others<S: Shelf>(
 )
     ensures { LeavesFiles (S.Sink.view shelf.old) (S.Sink.view shelf.new) }
 {
-    match (ended, names.tree, names.written, &inst) {
+    match (ended, names.read.tree, names.written, &inst) {
         (Status::BadTree, Some(name), _, Some(inst)) => say_bad_tree(page, shelf, name, inst),
         (Status::Infeasible | Status::BudgetNone, _, Some(name), _) => say_stale(page, shelf, name),
         _ => {}
@@ -289,13 +283,13 @@ fn say_others<S: Shelf>(
 fn say_files<S: Shelf>(page: &mut Page, shelf: &mut S, names: &Names<'_>, ended: Status)
     ensures { LeavesFiles (S.Sink.view shelf.old) (S.Sink.view shelf.new) }
 {
-    let texts = read_texts(page.alloc(), shelf, names);
+    let texts = read_texts(page.alloc(), shelf, &names.read);
     let Some(texts) = page.unless_short(texts) else {
         return;
     };
     say_texts(page, names, &texts, ended);
     let inst = if ended == Status::BadTree {
-        turned_instance(page.alloc(), &texts, names.turn)
+        turned_instance(page.alloc(), &texts, names.read.turn)
     } else {
         Ok(None)
     };
@@ -308,15 +302,22 @@ fn say_files<S: Shelf>(page: &mut Page, shelf: &mut S, names: &Names<'_>, ended:
 fn say_all<S: Shelf>(page: &mut Page, words: &[String], ended: Status, shelf: &mut S)
     ensures { LeavesFiles (S.Sink.view shelf.old) (S.Sink.view shelf.new) }
 {
-    if ended == Status::Usage {
-        return say_usage(page, words);
+    match ended {
+        Status::Usage => return say_usage(page, words),
+        Status::OutOfMemory => {
+            return page
+                .line()
+                .text("the system gave no more memory; no file was changed")
+                .end();
+        }
+        _ => {}
     }
     let request = request_of(page.alloc(), words);
-    let Some(request) = page.unless_short(request) else {
-        return;
-    };
-    let names = names_of(&request);
-    say_files(page, shelf, &names, ended)
+    if let Some(request) = page.unless_short(request) {
+        if let Some(names) = names_of(&request) {
+            say_files(page, shelf, &names, ended)
+        }
+    }
 }
 
 /// Says on `err`, for people, what is to be mended after a run with these words that ended so, and what in its
