@@ -1,5 +1,5 @@
 //! The command that plans.
-ghost use Rattle.std.specs.Prelude.{◌≡◌, ◌≤◌, IfOk, IfSome, IsSomeAnd, None, Ok, OnErr, option_map};
+ghost use Rattle.std.specs.Prelude.{◌≡◌, ◌≤◌, IfOk, IfSome, IsSome, IsSomeAnd, None, Ok, OnErr, option_map};
 ghost use Rattle.qc_io.specs.Writes.{Counts};
 ghost use Rattle.qc_model.specs.Instance.{Valid};
 ghost use Rattle.qc_model.specs.Judge.{IsJudgeable};
@@ -10,7 +10,7 @@ ghost use Rattle.qc_run.specs.Due.{own_job_due};
 ghost use Rattle.qc_run.specs.Steps.{ComesTo};
 ghost use Rattle.qc_plan_command.specs.Account.{IsPlanRun, IsPlanning};
 ghost use Rattle.qc_plan_command.specs.Ahead.{IsAhead};
-ghost use Rattle.qc_plan_command.specs.Asked.{planning};
+ghost use Rattle.qc_run.specs.Inputs.{names_of, planning};
 ghost use Rattle.qc_plan_command.specs.Chosen.{IsChosenSearch};
 ghost use Rattle.qc_plan_command.specs.Opened.{IsOpened};
 ghost use Rattle.qc_plan_command.specs.Promises.{PlanPromises};
@@ -19,7 +19,6 @@ ghost use Rattle.qc_plan_command.specs.Stored.{IsCut, IsStored};
 
 use crate::ahead::Ahead;
 use crate::answer::PlanAnswer;
-use crate::asked::PlanAsked;
 use crate::found::answer_of;
 use crate::given::earlier;
 use crate::opened::{Opened, open_for};
@@ -28,7 +27,9 @@ use crate::report::report;
 use qc_io::{Shelf, Sink, WriteFault};
 use qc_model::{Instance, Schedule};
 use qc_num::Tick;
-use qc_run::{Broken, Ended, OwnJob, Stop, broken_by, broken_of, read_own_job, report_stop};
+use qc_run::{
+    Broken, Ended, OwnJob, PlanAsked, Stop, broken_by, broken_of, read_own_job, report_stop,
+};
 use qc_search::{Done, Search};
 use qc_store::{store_best, store_tree};
 use std::alloc::Global;
@@ -162,13 +163,14 @@ fn break_of(job: &OwnJob) -> Option<Broken>
 /// to follow; looks for a plan to begin with, searches, and writes the tree and the plan. All memory is taken before
 /// anything is written.
 fn serve<S: Shelf>(alloc: Global, asked: &PlanAsked<'_>, shelf: &mut S) -> Result<PlanAnswer, Stop>
-    requires { asked.now.nodes ≤ most_branchings }
+    requires stow { IsSome (names_of asked.now.inputs).stow }
+    requires nodes { asked.now.nodes ≤ most_branchings }
     ensures serves { IsPlanning (planning asked.now) (S.Sink.view shelf.old) (S.Sink.view shelf.new) result }
     ensures ready { IfOk result CanBeTold }
     ensures never_falls { (S.Sink.view shelf.old).faults ≤ (S.Sink.view shelf.new).faults }
     ensures reads_never_fall { (S.Sink.view shelf.old).read_faults ≤ (S.Sink.view shelf.new).read_faults }
 {
-    let job = read_own_job(alloc, &asked.inputs(), shelf)?;
+    let job = read_own_job(alloc, &asked.inputs, shelf)?;
     if let Some(broken) = break_of(&job) {
         drop(job);
         return Ok(PlanAnswer::Broken(broken));
@@ -187,7 +189,8 @@ pub fn plan<S: Shelf, K: Sink>(
     shelf: &mut S,
     out: &mut K,
 ) -> Ended
-    requires { asked.now.nodes ≤ most_branchings }
+    requires stow { IsSome (names_of asked.now.inputs).stow }
+    requires nodes { asked.now.nodes ≤ most_branchings }
     ensures account { IsPlanRun (planning asked.now) (S.Sink.view shelf.old) (S.Sink.view shelf.new)
         (K.Sink.view out.old) (K.Sink.view out.new) result.status }
     ensures promises { PlanPromises (planning asked.now) (S.Sink.view shelf.old) (S.Sink.view shelf.new)

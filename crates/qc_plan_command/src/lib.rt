@@ -8,7 +8,6 @@
 
 mod ahead;
 mod answer;
-mod asked;
 mod command;
 mod found;
 mod given;
@@ -19,5 +18,4 @@ mod report;
 mod room;
 
 pub use answer::{Motion, PlanAnswer, Planned};
-pub use asked::PlanAsked;
 pub use command::plan;

@@ -21,7 +21,7 @@ mod watched;
 
 pub use broken::{Broken, broken_of, report_broken};
 pub use ended::{Cause, Ended, Until, Wait};
-pub use inputs::{Input, Inputs};
+pub use inputs::{Input, Inputs, PlanAsked};
 pub use reading::{
     Job, OwnJob, read_input, read_instance, read_job, read_moves, read_own_job, read_schedule,
     read_ship_file,

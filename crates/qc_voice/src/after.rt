@@ -3,7 +3,7 @@ ghost use Rattle.std.specs.Prelude.{None};
 ghost use Rattle.qc_io.specs.Outside.{sink_view};
 
 use crate::voice::explain;
-use qc_io::{Failed, Sink, fault, put_all};
+use qc_io::{Failed, Sink, fault};
 use qc_run::{Ended, Status};
 use qc_system::FileShelf;
 use std::fmt::Display;

@@ -2,7 +2,7 @@
 ghost use Rattle.qc_voice.specs.Frame.{LeavesFiles};
 
 use qc_io::{ReadAll, Shelf, read_all};
-use qc_model::{Instance, Turn};
+use qc_model::Instance;
 use qc_num::{Bytes, OutOfMemory};
 use qc_page::Page;
 use qc_run::Inputs;
@@ -21,86 +21,18 @@ pub(crate) struct Names<'a> {
     pub(crate) written: Option<&'a str>,
 }
 
-/// The names of a command that reads a ship file.
-fn of_ship<'a>(ship: &'a str) -> Inputs<'a> {
-    Inputs {
-        ship,
-        stow: None,
-        plan: None,
-        tree: None,
-        own: None,
-        log: None,
-        turn: Turn::OneWay,
-    }
-}
-
-/// The names of a command that reads a list too, and a plan where one is named.
-fn of_plan<'a>(ship: &'a str, stow: &'a str, plan: Option<&'a str>) -> Inputs<'a> {
-    Inputs {
-        stow: Some(stow),
-        plan,
-        ..of_ship(ship)
-    }
-}
-
-/// The names of the files that a command reads which writes none; none for one that reads no file.
-fn read_of<'a>(request: &Request<'a>) -> Option<Inputs<'a>> {
-    match *request {
-        Request::Check {
-            turn,
-            ship,
-            stow,
-            plan,
-            tree,
-        } => Some(Inputs {
-            turn,
-            tree: Some(tree),
-            ..of_plan(ship, stow, plan)
-        }),
-        Request::Tasks { ship, stow } => Some(of_plan(ship, stow, None)),
-        Request::Show { ship, stow, plan }
-        | Request::Sheet { ship, stow, plan }
-        | Request::Picture { ship, stow, plan }
-        | Request::Report { ship, stow, plan } => Some(of_plan(ship, stow, Some(plan))),
-        Request::Dispatch {
-            ship,
-            stow,
-            plan,
-            log,
-        } => Some(Inputs {
-            log: Some(log),
-            ..of_plan(ship, stow, Some(plan))
-        }),
-        Request::Watch { ship, log } => Some(Inputs {
-            log: Some(log),
-            ..of_ship(ship)
-        }),
-        _ => None,
-    }
-}
-
 /// The names of the files of a request; none where it reads no file.
 pub(crate) fn names_of<'a>(request: &Request<'a>) -> Option<Names<'a>> {
     match *request {
-        Request::Plan {
-            turn,
-            ship,
-            stow,
-            plan,
-            own,
-            ..
-        } => Some(Names {
-            read: Inputs {
-                turn,
-                own,
-                ..of_plan(ship, stow, None)
-            },
-            written: Some(plan),
-        }),
-        _ => Some(Names {
-            read: read_of(request)?,
+        Request::Reads(_, read) => Some(Names {
+            read,
             written: None,
         }),
+        Request::Plans(asked) => Some(Names {
+            read: asked.inputs,
+            written: Some(asked.plan),
+        }),
+        Request::Make { .. } | Request::Help(_) | Request::Version | Request::Usage => None,
     }
 }
 
