@@ -5,7 +5,7 @@ use qc_io::{Shelf, Sink, WriteFault};
 use qc_num::OutOfMemory;
 use qc_progress::Progress;
 use qc_system::{FileShelf, Lines, Output, words_of};
-use qc_top::{Status, run};
+use qc_top::{Ended, Status, run};
 use qc_voice::say_after;
 use std::io::IsTerminal;
 use std::os::fd::AsFd;
@@ -36,14 +36,14 @@ fn behind_quiet(words: &[String]) -> (bool, &[String]) {
     }
 }
 
-/// The status of a run over a shelf, and the shelf. Where it is to be shown, it is said how far the search has come.
+/// What a run over a shelf came to, and the shelf. Where it is to be shown, it is said how far the search has come.
 fn run_over<S: Shelf, K: Sink, R: Eprint + AllocGlobal>(
     rt: &R,
     words: &[String],
     shelf: S,
     is_shown: bool,
     out: &mut K,
-) -> (Status, S) {
+) -> (Ended, S) {
     let mut told = Progress::new(shelf, rt, is_shown);
     let ended = run(rt.alloc(), words, &mut told, out);
     (ended, told.into_shelf())
@@ -62,13 +62,13 @@ where
     let (is_quiet, words) = behind_quiet(words);
     let mut out = Lines::new(rt.alloc(), Output::new(io::writer(rt)))?;
     let is_shown = is_terminal && !is_quiet;
-    let (ended, mut shelf) = run_over(rt, words, FileShelf::new(rt), is_shown, &mut out);
-    let status = match out.flush() {
-        Ok(()) => ended,
-        Err(WriteFault) => Status::WriteFault,
-    };
+    let (mut ended, mut shelf) = run_over(rt, words, FileShelf::new(rt), is_shown, &mut out);
+    if let Err(WriteFault) = out.flush() {
+        ended.status = Status::WriteFault;
+    }
+    let status = ended.status;
     if !is_quiet {
-        say_after(rt, words, status, &mut shelf, out.to().why());
+        say_after(rt, words, &ended, &mut shelf, out.to().why());
     }
     drop(shelf);
     drop(out);

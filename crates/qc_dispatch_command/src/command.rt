@@ -8,7 +8,7 @@ use crate::report::report;
 use qc_dispatch::{DispatchError, follow_log};
 use qc_io::{Shelf, Sink};
 use qc_run::{
-    Input, Inputs, LogFault, Refusal, Status, Stop, broken_of, broken_rule, read_input, read_job,
+    Ended, Input, Inputs, LogFault, Refusal, Stop, broken_of, broken_rule, read_input, read_job,
     report_stop,
 };
 use std::alloc::Global;
@@ -49,16 +49,16 @@ pub fn dispatch<S: Shelf, K: Sink>(
     inputs: &Inputs<'_>,
     shelf: &mut S,
     out: &mut K,
-) -> Status
+) -> Ended
     requires stow { IsSome (names_of inputs.now).stow }
     requires plan { IsSome (names_of inputs.now).plan }
     requires log { IsSome (names_of inputs.now).log }
     ensures account { IsDispatchRun (names_of inputs.now) (S.Sink.view shelf.old) (S.Sink.view shelf.new)
-        (K.Sink.view out.old) (K.Sink.view out.new) result }
+        (K.Sink.view out.old) (K.Sink.view out.new) result.status }
     ensures reads_never_fall { (S.Sink.view shelf.old).read_faults ≤ (S.Sink.view shelf.new).read_faults }
 {
     match follow(alloc, inputs, shelf) {
-        Ok(answer) => report(answer, out),
+        Ok(answer) => report(alloc, answer, out),
         Err(stop) => report_stop(stop, out),
     }
 }

@@ -5,6 +5,7 @@
 mod answer;
 mod command;
 mod report;
+mod waits;
 
 pub use answer::{Dispatched, Dispatching};
 pub use command::dispatch;

@@ -8,11 +8,13 @@ ghost use Rattle.qc_dispatch.specs.Following.{journal_of};
 ghost use Rattle.qc_dispatch_command.specs.Texts.{event_line, journal_text, state_text};
 ghost use Rattle.qc_dispatch_command.specs.Told.{dispatching_status, dispatching_text};
 
-use crate::answer::Dispatching;
+use crate::answer::{Dispatched, Dispatching};
+use crate::waits::waits_of;
 use qc_dispatch::{Dispatch, Event, Followed};
 use qc_io::{Sink, WriteFault, put_all};
-use qc_num::Text;
-use qc_run::{Status, report_broken};
+use qc_num::{OutOfMemory, Text};
+use qc_run::{Cause, Ended, Status, report_broken};
+use std::alloc::Global;
 
 /// The line of what happened.
 fn event_line(event: &Event) -> Text<64>
@@ -84,13 +86,27 @@ fn report_followed<K: Sink>(followed: &Followed, out: &mut K) -> Status
     }
 }
 
+/// Hands on what cranes wait for where the log ends, if there is memory for it.
+fn ended_of(alloc: Global, status: Status, told: &Dispatched) -> Ended
+    ensures { result.status ≡ status }
+{
+    let cause = match waits_of(alloc, told) {
+        Ok(waits) => Some(Cause::Waits(waits)),
+        Err(OutOfMemory) => None,
+    };
+    Ended { status, cause }
+}
+
 /// Prints what a plan came to whose order is followed by a log.
-pub(crate) fn report<K: Sink>(answer: Dispatching, out: &mut K) -> Status
+pub(crate) fn report<K: Sink>(alloc: Global, answer: Dispatching, out: &mut K) -> Ended
     ensures { Reports (Prints (dispatching_text answer)) (PrintsPart (dispatching_text answer))
-        (dispatching_status answer) (K.view out.old) (K.view out.new) result }
+        (dispatching_status answer) (K.view out.old) (K.view out.new) result.status }
 {
     match answer {
-        Dispatching::Broken(told) => report_broken(&told, out),
-        Dispatching::Dispatched(told) => report_followed(&told.followed, out),
+        Dispatching::Broken(told) => report_broken(told, out),
+        Dispatching::Dispatched(told) => {
+            let status = report_followed(&told.followed, out);
+            ended_of(alloc, status, &told)
+        }
     }
 }

@@ -15,7 +15,7 @@ fn out_of_reach(inst: &Instance) -> Option<Task> {
 }
 
 /// Says why an instance has no plan, or where one may be found.
-pub fn say_infeasible(page: &mut Page, inst: &Instance) {
+pub fn say_infeasible(page: &mut Page, inst: &Instance, turn: Turn) {
     if let Some(task) = out_of_reach(inst) {
         let name = task.text();
         return page
@@ -25,7 +25,7 @@ pub fn say_infeasible(page: &mut Page, inst: &Instance) {
             .text(" lies where no crane comes, by from and to of the ship file")
             .end();
     }
-    match inst.turn() {
+    match turn {
         Turn::OneWay => page
             .line()
             .text("note: no plan goes one way; qc free looks for one in which cranes go to and fro")

@@ -2,28 +2,25 @@
 
 use crate::doing::{Doing, bays_needed, bays_short, done_by, travel};
 use qc_gantt::read_plan;
-use qc_model::{Break, Crane, Direction, Instance, Rule, Schedule, first_break};
+use qc_model::{Crane, Instance, Rule, Schedule};
 use qc_num::{Bay, Tick};
 use qc_page::{Page, Table, table_of, text_of};
-use std::alloc::Global;
+use qc_run::Broken;
 
-/// The first rule that a plan breaks on the way up; none where it breaks none, or can't be read.
-fn broken_by(alloc: Global, bytes: &[u8], inst: &Instance) -> Option<(Break, Schedule)> {
-    let Ok(sched) = read_plan(alloc, bytes, inst) else {
-        return None;
-    };
-    let broken = first_break(inst, &sched, Direction::Up)?;
-    Some((broken, sched))
-}
-
-/// Says which rule a plan of an instance breaks, and when the task may start. Says nothing where it breaks none, or
-/// can't be read.
-pub fn say_broken(page: &mut Page, file: &str, bytes: &[u8], inst: &Instance, in_decimetres: bool) {
-    if let Some((broken, sched)) = broken_by(page.alloc(), bytes, inst) {
+/// Says how a plan of an instance breaks a rule, and when the task may start. Says nothing where it can't be read.
+pub fn say_broken(
+    page: &mut Page,
+    file: &str,
+    bytes: &[u8],
+    inst: &Instance,
+    in_decimetres: bool,
+    told: &Broken,
+) {
+    if let Ok(sched) = read_plan(page.alloc(), bytes, inst) {
         let most = u32::from(inst.task_count()).saturating_add(1);
         let table = table_of(page.alloc(), file, bytes, most);
         if let Some(table) = page.unless_short(table) {
-            say_break(page, &table, inst, in_decimetres, &sched, broken);
+            say_break(page, &table, inst, in_decimetres, &sched, told);
             drop(table);
         }
         drop(sched)
@@ -37,35 +34,28 @@ fn say_break(
     inst: &Instance,
     in_decimetres: bool,
     sched: &Schedule,
-    broken: Break,
+    told: &Broken,
 ) {
-    let Some(one) = done_by(inst, sched, table, broken.first) else {
+    let Some(one) = done_by(inst, in_decimetres, sched, table, told.first.as_bytes()) else {
         return;
     };
-    let Some(other) = done_by(inst, sched, table, broken.second) else {
+    let Some(other) = done_by(inst, in_decimetres, sched, table, told.second.as_bytes()) else {
         drop(one);
         return;
     };
-    say_rule(page, broken.rule, inst, in_decimetres, &one, &other);
+    say_rule(page, told.rule, &one, &other);
     drop(other);
     drop(one)
 }
 
 /// Says how a rule is broken at one task, or at two.
-fn say_rule(
-    page: &mut Page,
-    rule: Rule,
-    inst: &Instance,
-    in_decimetres: bool,
-    one: &Doing<'_>,
-    other: &Doing<'_>,
-) {
+fn say_rule(page: &mut Page, rule: Rule, one: &Doing<'_>, other: &Doing<'_>) {
     let (early, late) = in_order(one, other);
     match rule {
-        Rule::Reach => say_reach(page, inst, in_decimetres, one),
-        Rule::Ready => say_ready(page, inst, in_decimetres, one),
-        Rule::Travel => say_travel(page, inst, in_decimetres, early, late),
-        Rule::Before => say_before(page, inst, one, other),
+        Rule::Reach => say_reach(page, one),
+        Rule::Ready => say_ready(page, one),
+        Rule::Travel => say_travel(page, early, late),
+        Rule::Before => say_before(page, one, other),
         Rule::Apart => say_behind(
             page,
             early,
@@ -73,8 +63,8 @@ fn say_rule(
             " goes on to ",
             "; their hatches are apart, so they are never worked at the same time",
         ),
-        Rule::Margin => say_margin(page, inst, in_decimetres, early, late),
-        Rule::Berth => say_berth(page, inst, in_decimetres, one),
+        Rule::Margin => say_margin(page, early, late),
+        Rule::Berth => say_berth(page, one),
         Rule::OneWay => say_one_way(page, early, late),
     }
 }
@@ -88,28 +78,11 @@ fn in_order<'b, 'a>(one: &'b Doing<'a>, other: &'b Doing<'a>) -> (&'b Doing<'a>,
     }
 }
 
-/// What is counted along the rail.
-fn unit(in_decimetres: bool) -> &'static str {
-    if in_decimetres {
-        "decimetre "
-    } else {
-        "crane bay "
-    }
-}
-
 /// Ends the line with the way of a task's crane, which is at a bay until a tick, and the start that it allows.
-fn end_with_way(
-    page: &mut Page,
-    inst: &Instance,
-    in_decimetres: bool,
-    task: &Doing<'_>,
-    bay: Bay,
-    until: Tick,
-    behind: &str,
-) {
+fn end_with_way(page: &mut Page, task: &Doing<'_>, bay: Bay, until: Tick, behind: &str) {
     let bays = Tick::from(bay.abs_diff(task.bay()));
-    let way = travel(inst, bays);
-    page.rail(bays, in_decimetres)
+    let way = travel(task.inst, bays);
+    page.rail(bays, task.in_decimetres)
         .text(" in ")
         .ticks(way)
         .text(behind);
@@ -117,21 +90,15 @@ fn end_with_way(
 }
 
 /// Goes on with how far two tasks are apart, and how far they should be.
-fn add_apart(
-    page: &mut Page,
-    inst: &Instance,
-    in_decimetres: bool,
-    early: &Doing<'_>,
-    late: &Doing<'_>,
-) {
+fn add_apart(page: &mut Page, early: &Doing<'_>, late: &Doing<'_>) {
     let bays = Tick::from(early.bay().abs_diff(late.bay()));
     page.text(" stand ")
-        .rail(bays, in_decimetres)
+        .rail(bays, early.in_decimetres)
         .text(" apart");
     if are_crossed(early, late) {
         page.text(" in the wrong order, and cranes can't pass each other");
     } else {
-        let needed = bays_needed(inst, early.crane_number, late.crane_number);
+        let needed = bays_needed(early.inst, early.crane_number, late.crane_number);
         page.text(", ").count(needed).text(" are needed");
     }
 }
@@ -163,12 +130,12 @@ pub(crate) fn is_reached(inst: &Instance, bay: Bay) -> bool {
 }
 
 /// Says that a crane doesn't reach a task.
-fn say_reach(page: &mut Page, inst: &Instance, in_decimetres: bool, task: &Doing<'_>) {
+fn say_reach(page: &mut Page, task: &Doing<'_>) {
     let bay = task.bay();
     page.on(task.place)
         .text(task.name())
         .text(" stands at ")
-        .text(unit(in_decimetres))
+        .text(task.unit())
         .number(i64::from(bay))
         .text(", and ")
         .word(task.crane_name())
@@ -176,9 +143,9 @@ fn say_reach(page: &mut Page, inst: &Instance, in_decimetres: bool, task: &Doing
         .number(i64::from(task.crane.from))
         .text(" to ")
         .number(i64::from(task.crane.to));
-    if is_reached(inst, bay) {
+    if is_reached(task.inst, bay) {
         page.text(": give the task to ");
-        add_reaching(page, inst, bay);
+        add_reaching(page, task.inst, bay);
         page.end()
     } else {
         page.text("; no crane reaches it, by from and to of the ship file")
@@ -187,7 +154,7 @@ fn say_reach(page: &mut Page, inst: &Instance, in_decimetres: bool, task: &Doing
 }
 
 /// Says when a crane can be at a task.
-fn say_ready(page: &mut Page, inst: &Instance, in_decimetres: bool, task: &Doing<'_>) {
+fn say_ready(page: &mut Page, task: &Doing<'_>) {
     let ready = task.crane.ready;
     page.on(task.place)
         .text(task.name())
@@ -198,17 +165,11 @@ fn say_ready(page: &mut Page, inst: &Instance, in_decimetres: bool, task: &Doing
         .text(" is ready at ")
         .count(ready)
         .text(" and goes ");
-    end_with_way(page, inst, in_decimetres, task, task.crane.bay, ready, "")
+    end_with_way(page, task, task.crane.bay, ready, "")
 }
 
 /// Says when a crane can be at its next task.
-fn say_travel(
-    page: &mut Page,
-    inst: &Instance,
-    in_decimetres: bool,
-    early: &Doing<'_>,
-    late: &Doing<'_>,
-) {
+fn say_travel(page: &mut Page, early: &Doing<'_>, late: &Doing<'_>) {
     page.on(late.place)
         .word(late.crane_name())
         .text(" does ")
@@ -221,12 +182,12 @@ fn say_travel(
         .count(late.start)
         .text(", and goes ");
     let (bay, end) = (early.bay(), early.end());
-    end_with_way(page, inst, in_decimetres, late, bay, end, " between")
+    end_with_way(page, late, bay, end, " between")
 }
 
 /// Says when a task may start that comes behind another.
-fn say_before(page: &mut Page, inst: &Instance, one: &Doing<'_>, other: &Doing<'_>) {
-    let (first, second) = if inst.is_before(other.number, one.number) {
+fn say_before(page: &mut Page, one: &Doing<'_>, other: &Doing<'_>) {
+    let (first, second) = if one.inst.is_before(other.number, one.number) {
         (other, one)
     } else {
         (one, other)
@@ -255,27 +216,22 @@ fn are_crossed(one: &Doing<'_>, other: &Doing<'_>) -> bool {
 }
 
 /// Says when a task may start that is too near to another crane's.
-fn say_margin(
-    page: &mut Page,
-    inst: &Instance,
-    in_decimetres: bool,
-    early: &Doing<'_>,
-    late: &Doing<'_>,
-) {
+fn say_margin(page: &mut Page, early: &Doing<'_>, late: &Doing<'_>) {
     page.on(late.place);
     late.add_with(page, ", from ", late.start);
     page.text(" and ");
     early.add_with(page, ", to ", early.end());
-    add_apart(page, inst, in_decimetres, early, late);
+    add_apart(page, early, late);
     let (v, w) = (early.crane_number, late.crane_number);
-    let short = bays_short(inst, v, early.bay(), w, late.bay());
-    let least = early.end().saturating_add(travel(inst, short));
+    let short = bays_short(early.inst, v, early.bay(), w, late.bay());
+    let least = early.end().saturating_add(travel(early.inst, short));
     late.end_with_start(page, least)
 }
 
 /// The crane that keeps a task longest from its place, since it can't leave its own first one, and when the task may
 /// start for it.
-fn crane_in_way<'a>(inst: &'a Instance, task: &Doing<'_>) -> Option<(&'a Crane, Tick)> {
+fn crane_in_way<'a>(task: &Doing<'a>) -> Option<(&'a Crane, Tick)> {
+    let inst = task.inst;
     let (mut found, mut most) = (None, task.start);
     for number in 0..inst.crane_count() {
         let crane = inst.crane(number);
@@ -293,8 +249,8 @@ fn crane_in_way<'a>(inst: &'a Instance, task: &Doing<'_>) -> Option<(&'a Crane, 
 }
 
 /// Says when a task may start that is too near to a crane that can't leave its first place yet.
-fn say_berth(page: &mut Page, inst: &Instance, in_decimetres: bool, task: &Doing<'_>) {
-    let Some((crane, least)) = crane_in_way(inst, task) else {
+fn say_berth(page: &mut Page, task: &Doing<'_>) {
+    let Some((crane, least)) = crane_in_way(task) else {
         return;
     };
     page.on(task.place);
@@ -302,7 +258,7 @@ fn say_berth(page: &mut Page, inst: &Instance, in_decimetres: bool, task: &Doing
     page.text(" is too near to ")
         .word(text_of(crane.name.as_bytes()))
         .text(", which stands at ")
-        .text(unit(in_decimetres))
+        .text(task.unit())
         .number(i64::from(crane.bay))
         .text(" and can't leave it before ")
         .count(crane.ready);

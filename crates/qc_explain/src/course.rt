@@ -1,59 +1,11 @@
 //! Faults of a log of ticks and of tasks that are done.
 
-ghost use Rattle.std.specs.Prelude.{IfOk, IfSome};
-ghost use Rattle.qc_model.specs.Rules.{Feasible};
-
 use crate::log::{say_no_line, word};
-use qc_dispatch::{DispatchError, DispatchFault, DispatchKind, follow_log};
-use qc_gantt::{PlanError, read_plan};
-use qc_model::{Instance, Schedule};
-use qc_num::OutOfMemory;
+use qc_dispatch::{DispatchFault, DispatchKind};
 use qc_page::{Page, Place, line_of, raw_line};
-use qc_run::broken_rule;
-use std::alloc::Global;
 
-/// The plan of a table; none where the table has a fault, or the plan breaks a rule.
-pub(crate) fn feasible_plan(
-    alloc: Global,
-    bytes: &[u8],
-    inst: &Instance,
-) -> Result<Option<Schedule>, OutOfMemory>
-    ensures { IfOk result (λ plan. IfSome plan (λ sched. Feasible inst.now sched)) }
-{
-    let sched = match read_plan(alloc, bytes, inst) {
-        Ok(sched) => sched,
-        Err(PlanError::Fault(_)) => return Ok(None),
-        Err(PlanError::OutOfMemory) => return Err(OutOfMemory),
-    };
-    if broken_rule(inst, &sched).is_some() {
-        return Ok(None);
-    }
-    Ok(Some(sched))
-}
-
-/// The first fault of a log by which a plan is followed.
-fn fault_of(
-    alloc: Global,
-    bytes: &[u8],
-    inst: &Instance,
-    plan: &[u8],
-) -> Result<Option<DispatchFault>, OutOfMemory> {
-    let Some(sched) = feasible_plan(alloc, plan, inst)? else {
-        return Ok(None);
-    };
-    match follow_log(alloc, inst, &sched, bytes) {
-        Ok(_) => Ok(None),
-        Err(DispatchError::Fault(fault)) => Ok(Some(fault)),
-        Err(DispatchError::OutOfMemory) => Err(OutOfMemory),
-    }
-}
-
-/// Says what is wrong with a log of ticks and of tasks that are done, by which a plan of an instance is followed. Says
-/// nothing where the log is in order, or the plan has a fault.
-pub fn say_course(page: &mut Page, file: &str, bytes: &[u8], inst: &Instance, plan: &[u8]) {
-    let Some(Some(fault)) = page.unless_short(fault_of(page.alloc(), bytes, inst, plan)) else {
-        return;
-    };
+/// Says what is wrong with a log of ticks and of tasks that are done, whose first fault is this one.
+pub fn say_course(page: &mut Page, file: &str, bytes: &[u8], fault: DispatchFault) {
     let number = fault.line as usize;
     let (place, name) = (
         Place::at_line(file, number),

@@ -7,6 +7,9 @@ use qc_page::{Page, Place, Table, text_of};
 /// A task as a plan has it done.
 #[derive(Drop)]
 pub(crate) struct Doing<'a> {
+    pub(crate) inst: &'a Instance,
+    /// Whether places along the rail are counted in decimetres.
+    pub(crate) in_decimetres: bool,
     task: Task,
     name: TaskText,
     pub(crate) number: u16,
@@ -17,13 +20,27 @@ pub(crate) struct Doing<'a> {
     pub(crate) place: Place<'a>,
 }
 
-/// A task of a plan by its number, from 0.
+/// The number of a task with this name, from 0.
+fn number_of(inst: &Instance, name: &[u8]) -> Option<u16> {
+    for number in 0..inst.task_count() {
+        if inst.task(number).text().as_bytes() == name {
+            return Some(number);
+        }
+    }
+    None
+}
+
+/// A task of a plan by its name.
 pub(crate) fn done_by<'a>(
     inst: &'a Instance,
+    in_decimetres: bool,
     sched: &Schedule,
     table: &Table<'a>,
-    number: u16,
+    name: &[u8],
 ) -> Option<Doing<'a>> {
+    let Some(number) = number_of(inst, name) else {
+        return None;
+    };
     let Some(task) = inst.tasks().get(number as usize) else {
         return None;
     };
@@ -33,16 +50,16 @@ pub(crate) fn done_by<'a>(
     let Some(crane) = inst.cranes().get(slot.crane as usize) else {
         return None;
     };
-    let name = task.text();
-    let place = place_of(table, name.as_bytes());
     Some(Doing {
+        inst,
+        in_decimetres,
         task: *task,
-        name,
+        name: task.text(),
         number,
         crane,
         crane_number: slot.crane,
         start: slot.start,
-        place,
+        place: place_of(table, name),
     })
 }
 
@@ -63,6 +80,15 @@ impl<'a> Doing<'a> {
     /// The bay of the task.
     pub(crate) fn bay(&self) -> Bay {
         self.task.bay
+    }
+
+    /// What is counted along the rail.
+    pub(crate) fn unit(&self) -> &'static str {
+        if self.in_decimetres {
+            "decimetre "
+        } else {
+            "crane bay "
+        }
     }
 
     /// When it ends.

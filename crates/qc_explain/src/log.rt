@@ -1,26 +1,12 @@
 //! Faults of a log of places.
 
 use crate::cranes::say_no_crane;
-use qc_num::OutOfMemory;
 use qc_page::{Page, Place, are_digits, line_of, piece_at, raw_line};
 use qc_ship::Ship;
-use qc_watch::{WatchError, WatchFault, WatchKind, read_reports};
-use std::alloc::Global;
+use qc_watch::{WatchFault, WatchKind};
 
-/// The first fault of a log.
-fn fault_of(alloc: Global, bytes: &[u8], ship: &Ship) -> Result<Option<WatchFault>, OutOfMemory> {
-    match read_reports(alloc, bytes, ship) {
-        Ok(_) => Ok(None),
-        Err(WatchError::Fault(fault)) => Ok(Some(fault)),
-        Err(WatchError::OutOfMemory) => Err(OutOfMemory),
-    }
-}
-
-/// Says what is wrong with a log of the places of a ship's cranes. Says nothing where it is in order.
-pub fn say_log(page: &mut Page, file: &str, bytes: &[u8], ship: &Ship) {
-    let Some(Some(fault)) = page.unless_short(fault_of(page.alloc(), bytes, ship)) else {
-        return;
-    };
+/// Says what is wrong with a log of the places of a ship's cranes, whose first fault is this one.
+pub fn say_log(page: &mut Page, file: &str, bytes: &[u8], ship: &Ship, fault: WatchFault) {
     let number = fault.line as usize;
     let place = Place::at_line(file, number);
     match fault.kind {

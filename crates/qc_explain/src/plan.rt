@@ -1,35 +1,18 @@
 //! Faults of a plan's file.
 
 use crate::cranes::say_no_crane;
-use qc_gantt::{PlanError, PlanFault, PlanKind, read_plan};
+use qc_gantt::{PlanFault, PlanKind};
 use qc_model::{Instance, Task};
-use qc_num::{OutOfMemory, plain_number};
+use qc_num::plain_number;
 use qc_page::{Page, Sort, Table, is_blank, say_fields, say_header, table_of, text_of};
-use std::alloc::Global;
 
 const HEADER: &str = "task,crane,start,end";
 
 /// How many digits a start and an end have at most.
 const DIGITS: usize = 12;
 
-/// The first fault of a plan.
-fn fault_of(
-    alloc: Global,
-    bytes: &[u8],
-    inst: &Instance,
-) -> Result<Option<PlanFault>, OutOfMemory> {
-    match read_plan(alloc, bytes, inst) {
-        Ok(_) => Ok(None),
-        Err(PlanError::Fault(fault)) => Ok(Some(fault)),
-        Err(PlanError::OutOfMemory) => Err(OutOfMemory),
-    }
-}
-
-/// Says what is wrong with the table of a plan of an instance. Says nothing where it is in order.
-pub fn say_plan(page: &mut Page, file: &str, bytes: &[u8], inst: &Instance) {
-    let Some(Some(fault)) = page.unless_short(fault_of(page.alloc(), bytes, inst)) else {
-        return;
-    };
+/// Says what is wrong with the table of a plan of an instance, whose first fault is this one.
+pub fn say_plan(page: &mut Page, file: &str, bytes: &[u8], inst: &Instance, fault: PlanFault) {
     let table = table_of(page.alloc(), file, bytes, fault.number);
     if let Some(table) = page.unless_short(table) {
         say_fault(page, &table, fault, inst);

@@ -59,8 +59,7 @@ fn other_kind(title: &[u8], turn: Turn) -> Option<&'static str> {
     }
 }
 
-/// Says what is wrong with a tree for schedules of this turn, whose first fault is this one. The bytes are those of a
-/// front part of its file.
+/// Says what is wrong with a tree for schedules of this turn, whose first fault is this one.
 pub fn say_tree(page: &mut Page, file: &str, bytes: &[u8], turn: Turn, fault: TreeFault) {
     if say_form(page, file, bytes, Sort::Tree) {
         return;

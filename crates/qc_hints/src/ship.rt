@@ -7,24 +7,12 @@ use crate::ordinals::ordinal;
 use crate::toml_lines::KeyLine;
 use qc_num::OutOfMemory;
 use qc_page::{Page, Place, Sort, has_digit, is_near, say_form};
-use qc_ship::{Key, ShipError, ShipFault, ShipKind, read_ship};
+use qc_ship::{Key, ShipFault, ShipKind};
 use std::alloc::Global;
 use toml::Value;
 
-/// The first fault of a ship file.
-fn fault_of(alloc: Global, bytes: &[u8]) -> Result<Option<ShipFault>, OutOfMemory> {
-    match read_ship(alloc, bytes) {
-        Ok(_) => Ok(None),
-        Err(ShipError::Fault(fault)) => Ok(Some(fault)),
-        Err(ShipError::OutOfMemory) => Err(OutOfMemory),
-    }
-}
-
-/// Says what is wrong with a ship file.
-pub fn say_ship(page: &mut Page, file: &str, bytes: &[u8]) {
-    let Some(Some(fault)) = page.unless_short(fault_of(page.alloc(), bytes)) else {
-        return;
-    };
+/// Says what is wrong with a ship file, whose first fault is this one.
+pub fn say_ship(page: &mut Page, file: &str, bytes: &[u8], fault: ShipFault) {
     if say_form(page, file, bytes, Sort::Ship) {
         return;
     }

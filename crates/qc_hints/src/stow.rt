@@ -1,28 +1,14 @@
 //! Faults of a stowage list.
 
 use qc_cell::{Cell, CellFault};
-use qc_num::OutOfMemory;
 use qc_page::{Page, Sort, Table, are_digits, is_blank, say_fields, say_header, table_of};
 use qc_ship::Ship;
-use qc_stow::{StowError, StowFault, StowKind, read_stow};
-use std::alloc::Global;
+use qc_stow::{StowFault, StowKind};
 
 const HEADER: &str = "id,move,cell,length";
 
-/// The first fault of a stowage list.
-fn fault_of(alloc: Global, bytes: &[u8], ship: &Ship) -> Result<Option<StowFault>, OutOfMemory> {
-    match read_stow(alloc, bytes, ship) {
-        Ok(_) => Ok(None),
-        Err(StowError::Fault(fault)) => Ok(Some(fault)),
-        Err(StowError::OutOfMemory) => Err(OutOfMemory),
-    }
-}
-
-/// Says what is wrong with a stowage list of a ship.
-pub fn say_stow(page: &mut Page, file: &str, bytes: &[u8], ship: &Ship) {
-    let Some(Some(fault)) = page.unless_short(fault_of(page.alloc(), bytes, ship)) else {
-        return;
-    };
+/// Says what is wrong with a stowage list of a ship, whose first fault is this one.
+pub fn say_stow(page: &mut Page, file: &str, bytes: &[u8], ship: &Ship, fault: StowFault) {
     let table = table_of(page.alloc(), file, bytes, fault.number);
     let Some(table) = page.unless_short(table) else {
         return;

@@ -16,7 +16,7 @@ use crate::reading::read_tree;
 use qc_io::{Shelf, Sink};
 use qc_num::{Bound, Text};
 use qc_replay::Replayed;
-use qc_run::{Inputs, Status, Stop, read_instance, report_stop, report_text};
+use qc_run::{Ended, Inputs, Status, Stop, read_instance, report_stop, report_text};
 use std::alloc::Global;
 
 /// What the tree shows for the instance of the ship file and the stowage list.
@@ -59,9 +59,9 @@ fn bound_text(bound: Bound) -> Text<32>
 }
 
 /// Prints a tree's value.
-fn report_bound<K: Sink>(bound: Bound, out: &mut K) -> Status
+fn report_bound<K: Sink>(bound: Bound, out: &mut K) -> Ended
     ensures { Reports (Prints (bound_text bound)) (PrintsPart (bound_text bound)) (bound_status bound)
-        (K.view out.old) (K.view out.new) result }
+        (K.view out.old) (K.view out.new) result.status }
 {
     report_text(bound_status(bound), bound_text(bound).as_bytes(), out)
 }
@@ -72,13 +72,13 @@ pub fn check_tree<S: Shelf, K: Sink>(
     inputs: &Inputs<'_>,
     shelf: &mut S,
     out: &mut K,
-) -> Status
+) -> Ended
     requires stow { IsSome (names_of inputs.now).stow }
     requires tree { IsSome (names_of inputs.now).tree }
     ensures account { IsTreeRun (names_of inputs.now) (S.Sink.view shelf.old) (S.Sink.view shelf.new)
-        (K.Sink.view out.old) (K.Sink.view out.new) result }
+        (K.Sink.view out.old) (K.Sink.view out.new) result.status }
     ensures promises { TreePromises (names_of inputs.now) (S.Sink.view shelf.old) (S.Sink.view shelf.new)
-        (K.Sink.view out.old) (K.Sink.view out.new) result }
+        (K.Sink.view out.old) (K.Sink.view out.new) result.status }
     ensures reads_never_fall { (S.Sink.view shelf.old).read_faults ≤ (S.Sink.view shelf.new).read_faults }
 {
     match read_shown(alloc, inputs, shelf) {

@@ -17,7 +17,7 @@ use crate::reading::read_tree;
 use qc_io::{Shelf, Sink};
 use qc_model::{Instance, Schedule, ends};
 use qc_num::Bound;
-use qc_run::{Inputs, Job, Status, Stop, broken_by, broken_of, read_job, report_stop};
+use qc_run::{Ended, Inputs, Job, Stop, broken_by, broken_of, read_job, report_stop};
 use std::alloc::Global;
 
 /// What is told of a schedule that cranes may follow, beside what a tree shows.
@@ -79,14 +79,14 @@ pub fn check_plan<S: Shelf, K: Sink>(
     inputs: &Inputs<'_>,
     shelf: &mut S,
     out: &mut K,
-) -> Status
+) -> Ended
     requires stow { IsSome (names_of inputs.now).stow }
     requires plan { IsSome (names_of inputs.now).plan }
     requires tree { IsSome (names_of inputs.now).tree }
     ensures account { IsPlanCheckRun (names_of inputs.now) (S.Sink.view shelf.old) (S.Sink.view shelf.new)
-        (K.Sink.view out.old) (K.Sink.view out.new) result }
+        (K.Sink.view out.old) (K.Sink.view out.new) result.status }
     ensures promises { PlanCheckPromises (names_of inputs.now) (S.Sink.view shelf.old) (S.Sink.view shelf.new)
-        (K.Sink.view out.old) (K.Sink.view out.new) result }
+        (K.Sink.view out.old) (K.Sink.view out.new) result.status }
     ensures reads_never_fall { (S.Sink.view shelf.old).read_faults ≤ (S.Sink.view shelf.new).read_faults }
 {
     match judge(alloc, inputs, shelf) {

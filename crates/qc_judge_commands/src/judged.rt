@@ -6,7 +6,7 @@ ghost use Rattle.qc_judge_commands.specs.Texts.{compared_status, compared_text, 
 use crate::answer::{Compared, Judged};
 use qc_io::Sink;
 use qc_num::{Bound, Text};
-use qc_run::{Status, report_broken, report_text};
+use qc_run::{Ended, Status, report_broken, report_text};
 
 /// Whether no schedule that cranes may follow ends before the plan.
 fn is_best(told: Compared) -> bool
@@ -47,12 +47,12 @@ fn compared_text(told: Compared) -> Text<64>
 }
 
 /// Prints what a check of a plan came to.
-pub(crate) fn report<K: Sink>(answer: Judged, out: &mut K) -> Status
+pub(crate) fn report<K: Sink>(answer: Judged, out: &mut K) -> Ended
     ensures { Reports (Prints (judged_text answer)) (PrintsPart (judged_text answer)) (judged_status answer)
-        (K.view out.old) (K.view out.new) result }
+        (K.view out.old) (K.view out.new) result.status }
 {
     match answer {
-        Judged::Broken(told) => report_broken(&told, out),
+        Judged::Broken(told) => report_broken(told, out),
         Judged::Compared(told) => report_text(
             compared_status(told),
             compared_text(told).as_bytes(),

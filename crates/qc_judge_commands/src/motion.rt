@@ -11,7 +11,7 @@ use qc_io::{Shelf, Sink};
 use qc_model::direction_of;
 use qc_motion::Track;
 use qc_num::OutOfMemory;
-use qc_run::{Inputs, Job, Status, Stop, broken_of, read_job, report_stop};
+use qc_run::{Ended, Inputs, Job, Stop, broken_of, read_job, report_stop};
 use std::alloc::Global;
 
 /// Reads the ship file, the stowage list and the plan's file and judges the plan; where it holds its
@@ -48,11 +48,11 @@ pub fn show<S: Shelf, K: Sink>(
     inputs: &Inputs<'_>,
     shelf: &mut S,
     out: &mut K,
-) -> Status
+) -> Ended
     requires stow { IsSome (names_of inputs.now).stow }
     requires plan { IsSome (names_of inputs.now).plan }
     ensures account { IsReaderRun show_reader (names_of inputs.now)
-        (S.Sink.view shelf.old) (S.Sink.view shelf.new) (K.Sink.view out.old) (K.Sink.view out.new) result }
+        (S.Sink.view shelf.old) (S.Sink.view shelf.new) (K.Sink.view out.old) (K.Sink.view out.new) result.status }
     ensures reads_never_fall { (S.Sink.view shelf.old).read_faults ≤ (S.Sink.view shelf.new).read_faults }
 {
     match judge(alloc, inputs, shelf) {

@@ -13,7 +13,7 @@ use qc_io::{Sink, WriteFault, put_all};
 use qc_model::{Direction, Instance, Schedule, ends};
 use qc_motion::Track;
 use qc_num::{Text, Tick};
-use qc_run::{Status, direction_text, report_broken};
+use qc_run::{Ended, Status, direction_text, report_broken};
 
 /// The lines ahead of a plan's motion.
 fn head_text(direction: Direction, end: Tick) -> Text<64>
@@ -61,25 +61,25 @@ fn put_shown<K: Sink>(told: Shown, out: &mut K) -> Result<(), WriteFault>
 }
 
 /// Prints the motion of a plan.
-fn report_shown<K: Sink>(told: Shown, out: &mut K) -> Status
+fn report_shown<K: Sink>(told: Shown, out: &mut K) -> Ended
     requires { IsShowReady told }
     ensures { Reports (IsShownPrinted told) (IsShownCut told) status.Done
-        (K.view out.old) (K.view out.new) result }
+        (K.view out.old) (K.view out.new) result.status }
 {
     match put_shown(told, out) {
-        Ok(()) => Status::Done,
-        Err(WriteFault) => Status::WriteFault,
+        Ok(()) => Ended::of(Status::Done),
+        Err(WriteFault) => Ended::of(Status::WriteFault),
     }
 }
 
 /// Prints what a plan that is shown came to.
-pub(crate) fn report<K: Sink>(answer: Showing, out: &mut K) -> Status
+pub(crate) fn report<K: Sink>(answer: Showing, out: &mut K) -> Ended
     requires { CanBeShown answer }
     ensures { Reports (showing_prints answer) (showing_prints_part answer) (showing_status answer)
-        (K.view out.old) (K.view out.new) result }
+        (K.view out.old) (K.view out.new) result.status }
 {
     match answer {
-        Showing::Broken(told) => report_broken(&told, out),
+        Showing::Broken(told) => report_broken(told, out),
         Showing::Shown(told) => report_shown(told, out),
     }
 }

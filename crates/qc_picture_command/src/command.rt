@@ -9,7 +9,7 @@ use crate::motion::read_motion;
 use crate::report::{report, text_of};
 use qc_io::{Shelf, Sink};
 use qc_num::OutOfMemory;
-use qc_run::{Inputs, Status, Stop, report_stop};
+use qc_run::{Ended, Inputs, Stop, report_stop};
 use std::alloc::Global;
 
 /// Reads and judges a plan, and tells of it where it is feasible.
@@ -41,11 +41,11 @@ pub fn print_plan<S: Shelf, K: Sink>(
     inputs: &Inputs<'_>,
     shelf: &mut S,
     out: &mut K,
-) -> Status
+) -> Ended
     requires stow { IsSome (names_of inputs.now).stow }
     requires plan { IsSome (names_of inputs.now).plan }
     ensures account { IsReaderRun (printer what) (names_of inputs.now)
-        (S.Sink.view shelf.old) (S.Sink.view shelf.new) (K.Sink.view out.old) (K.Sink.view out.new) result }
+        (S.Sink.view shelf.old) (S.Sink.view shelf.new) (K.Sink.view out.old) (K.Sink.view out.new) result.status }
     ensures reads_never_fall { (S.Sink.view shelf.old).read_faults ≤ (S.Sink.view shelf.new).read_faults }
 {
     match tell(alloc, what, inputs, shelf) {

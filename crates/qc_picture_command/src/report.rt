@@ -10,7 +10,7 @@ use qc_figures::{Figured, write_figures};
 use qc_io::Sink;
 use qc_num::{Bytes, OutOfMemory};
 use qc_picture::{Drawn, write_picture};
-use qc_run::{Status, report_broken, report_text};
+use qc_run::{Ended, Status, report_broken, report_text};
 use std::alloc::Global;
 
 /// What the figures and the drawing of a plan are told of.
@@ -63,12 +63,12 @@ pub(crate) fn text_of(alloc: Global, what: Print, plan: &Planned) -> Result<Byte
 }
 
 /// Prints what a plan came to.
-pub(crate) fn report<K: Sink>(answer: Printed, out: &mut K) -> Status
+pub(crate) fn report<K: Sink>(answer: Printed, out: &mut K) -> Ended
     ensures { Reports (Prints (printed_text answer)) (PrintsPart (printed_text answer)) (printed_status answer)
-        (K.view out.old) (K.view out.new) result }
+        (K.view out.old) (K.view out.new) result.status }
 {
     match answer {
-        Printed::Broken(told) => report_broken(&told, out),
+        Printed::Broken(told) => report_broken(told, out),
         Printed::Text(text) => report_text(Status::Done, text.as_slice(), out),
     }
 }

@@ -26,7 +26,7 @@ use Rattle.qc_store.proofs.OutcomeLemmas.{of_some}
 use Rattle.qc_plan_command.specs.declared.answer.PlanAnswer.{PlanAnswer}
 use Rattle.qc_plan_command.specs.declared.answer.PlanAnswer.TheVariants as answer
 use Rattle.qc_plan_command.specs.Account.{IsLeft, IsOwnBroken, IsPlanRun, IsPlanning, IsStopped, IsWritten}
-use Rattle.qc_plan_command.specs.Asked.{Planning}
+use Rattle.qc_run.specs.Inputs.{Planning}
 use Rattle.qc_plan_command.specs.Promises.{EndsPlanned, IsBudgetTold, IsInfeasibleTold, IsOptimalTold, IsOwnBrokenTold, IsSearchEnd, IsStopTold, IsUnplannedTold, PlanPromises}
 use Rattle.qc_plan_command.specs.Reports.{found_status, plan_prints, plan_prints_part, plan_status}
 use Rattle.qc_plan_command.proofs.FoundLemmas.{found_is_not, in_time, is_best, kind_by, kind_none, none_goes, own_found, own_no_later, own_none, search_end, too_late}

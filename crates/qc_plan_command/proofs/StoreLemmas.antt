@@ -1,5 +1,5 @@
 -- What a plan leaves in its files, from what the storing of its search says.
-use Rattle.std.proofs.Common.{◌≡◌, ℕ, true, false, List, Option, None, Some, Result, Ok, Err, ◌⊎◌, ap, ◌∙◌, inl, inr, refl, subst, subst₂, IfOk, IfSome, IsSomeAnd, OnErr, OnOk, is_err}
+use Rattle.std.proofs.Common.{◌≡◌, ℕ, true, false, List, Option, None, Some, Result, Ok, Err, ◌⊎◌, ◌∙◌, inl, inr, refl, subst, subst₂, IfOk, IfSome, IsSomeAnd, OnErr, OnOk, is_err}
 use Rattle.qc_io.specs.Outside.{Files, Rose, View}
 use Rattle.qc_model.specs.declared.schedule.Slot.{Slot}
 use Rattle.qc_model.specs.declared.direction.Direction.{Direction}
@@ -16,13 +16,12 @@ use Rattle.qc_run.specs.declared.reading.OwnJob.{OwnJob}
 use Rattle.qc_run.specs.Due.{contents_in, own_job_due}
 use Rattle.qc_run.specs.declared.broken.Broken.{Broken}
 use Rattle.qc_run.specs.Broken.{TellsBreakBy}
-use Rattle.qc_run.specs.Inputs.{Names}
+use Rattle.qc_run.specs.Inputs.{Planning}
 use Rattle.qc_run.specs.Steps.{ComesTo, IsStep}
 use Rattle.qc_run.proofs.DueLemmas.{own_job_turn}
 use Rattle.qc_plan_command.specs.declared.answer.PlanAnswer.{PlanAnswer}
 use Rattle.qc_plan_command.specs.declared.answer.PlanAnswer.TheVariants as answer
 use Rattle.qc_plan_command.specs.Account.{IsLeft, IsPlanning, IsSearched, IsStopped, IsWritten, Writes}
-use Rattle.qc_plan_command.specs.Asked.{Planning}
 use Rattle.qc_plan_command.specs.Found.{Tells}
 use Rattle.qc_plan_command.specs.Opened.{IsSearchFor, WasRun, search_from}
 
@@ -167,17 +166,14 @@ seen_allowed inst way None seen = tt
 seen_allowed inst way (Some sched) seen = so_allowed inst.turn inst sched way seen
 
 -- the planner's own plan was read, and breaks a rule
-pub own_broken : (asked : Planning) (names : Names) (before after : View) (job : OwnJob) (told : Broken)
-    → names ≡ asked.inputs
-    → IsStep (own_job_due names.own) names before after (Ok job)
-    → job.inst.turn ≡ names.turn
+pub own_broken : (asked : Planning) (before after : View) (job : OwnJob) (told : Broken)
+    → IsStep (own_job_due asked.inputs.own) asked.inputs before after (Ok job)
+    → job.inst.turn ≡ asked.inputs.turn
     → IsSomeAnd job.own (λ sched. TellsBreakBy job.inst.turn job.inst sched told)
     → IsPlanning asked before after (Ok (answer.Broken told))
-own_broken asked names before after job told same step turn tells =
+own_broken asked before after job told step turn tells =
     by job.own refl
-    (subst (λ (t : Turn). IsSomeAnd job.own (λ sched. TellsBreakBy t job.inst sched told))
-    (turn ∙ ap (λ (n : Names). n.turn) same) tells)
-    (subst (λ (n : Names). IsStep (own_job_due n.own) n before after (Ok job)) same step)
+    (subst (λ (t : Turn). IsSomeAnd job.own (λ sched. TellsBreakBy t job.inst sched told)) turn tells) step
   where
     by : (own : Option (List Slot)) → job.own ≡ own
         → IsSomeAnd own (λ sched. TellsBreakBy asked.inputs.turn job.inst sched told)

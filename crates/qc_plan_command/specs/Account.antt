@@ -18,7 +18,7 @@ use Rattle.qc_run.specs.Reports.{IsRun}
 use Rattle.qc_run.specs.Steps.{ComesTo, MayStop, Stops}
 use Rattle.qc_plan_command.specs.declared.answer.PlanAnswer.{PlanAnswer}
 use Rattle.qc_plan_command.specs.declared.answer.PlanAnswer.TheVariants as answer
-use Rattle.qc_plan_command.specs.Asked.{Planning}
+use Rattle.qc_run.specs.Inputs.{Planning}
 use Rattle.qc_plan_command.specs.Found.{Tells}
 use Rattle.qc_plan_command.specs.Reports.{plan_prints, plan_prints_part, plan_status}
 

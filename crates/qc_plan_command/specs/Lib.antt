@@ -1,4 +1,3 @@
-pub mod Asked
 pub mod Rooms
 pub mod Ahead
 pub mod Opened

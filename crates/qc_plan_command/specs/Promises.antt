@@ -20,7 +20,7 @@ use Rattle.qc_run.specs.Told.{EndsBy, IsBest, IsCutTold, IsRefusal, IsRefusalTol
 use Rattle.qc_plan_command.specs.declared.answer.Planned.{Planned}
 use Rattle.qc_plan_command.specs.declared.answer.PlanAnswer.TheVariants as answer
 use Rattle.qc_plan_command.specs.Account.{IsLeft, IsPlanning, IsWritten}
-use Rattle.qc_plan_command.specs.Asked.{Planning}
+use Rattle.qc_run.specs.Inputs.{Planning}
 use Rattle.qc_plan_command.specs.Found.{IsByTightEnd}
 use Rattle.qc_plan_command.specs.Reports.{IsPlanPrinted, infeasible_text, plan_prints_part, unplanned_text}
 

@@ -10,7 +10,7 @@ use Rattle.qc_tree.specs.Trees.{NoneEarlier}
 use Rattle.qc_plan_command.specs.declared.answer.PlanAnswer.{PlanAnswer}
 use Rattle.qc_plan_command.specs.declared.answer.PlanAnswer.TheVariants as answer
 use Rattle.qc_plan_command.specs.Account.{IsPlanning}
-use Rattle.qc_plan_command.specs.Asked.{Planning}
+use Rattle.qc_run.specs.Inputs.{Planning}
 use Rattle.qc_plan_command.specs.Found.{Tells}
 
 -- what is known of what the search came to; any answer that tells of it is one that the command may give

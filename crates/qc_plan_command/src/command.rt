@@ -1,5 +1,5 @@
 //! The command that plans.
-ghost use Rattle.std.specs.Prelude.{◌≡◌, ◌≤◌, IfOk, IfSome, Ok, OnErr};
+ghost use Rattle.std.specs.Prelude.{◌≡◌, ◌≤◌, IfOk, IfSome, IsSome, Ok, OnErr};
 ghost use Rattle.qc_io.specs.Writes.{Counts};
 ghost use Rattle.qc_model.specs.Instance.{Valid};
 ghost use Rattle.qc_model.specs.Numbers.{most_branchings};
@@ -8,7 +8,7 @@ ghost use Rattle.qc_run.specs.Due.{own_job_due};
 ghost use Rattle.qc_run.specs.Steps.{ComesTo};
 ghost use Rattle.qc_plan_command.specs.Account.{IsPlanRun, IsPlanning};
 ghost use Rattle.qc_plan_command.specs.Ahead.{IsAhead};
-ghost use Rattle.qc_plan_command.specs.Asked.{planning};
+ghost use Rattle.qc_run.specs.Inputs.{names_of, planning};
 ghost use Rattle.qc_plan_command.specs.Opened.{IsOpened, IsSearchFor, WasRun, search_from};
 ghost use Rattle.qc_plan_command.specs.Promises.{PlanPromises};
 ghost use Rattle.qc_plan_command.specs.Reports.{CanBeTold};
@@ -16,14 +16,13 @@ ghost use Rattle.qc_plan_command.specs.Stored.{IsCut, IsStored};
 
 use crate::ahead::Ahead;
 use crate::answer::PlanAnswer;
-use crate::asked::PlanAsked;
 use crate::found::answer_of;
 use crate::opened::{Opened, open_for};
 use crate::report::report;
 use crate::way::own_way;
 use qc_io::{Shelf, Sink, WriteFault};
 use qc_model::Instance;
-use qc_run::{OwnJob, Status, Stop, read_own_job, report_stop};
+use qc_run::{Ended, OwnJob, PlanAsked, Stop, read_own_job, report_stop};
 use qc_search::{Done, Search};
 use qc_store::{store_best, store_tree};
 use std::alloc::Global;
@@ -120,13 +119,14 @@ fn plan_job<S: Shelf>(
 /// to follow; looks for a plan to begin with, searches, and writes the tree and the plan. All memory is taken before
 /// anything is written.
 fn serve<S: Shelf>(alloc: Global, asked: &PlanAsked<'_>, shelf: &mut S) -> Result<PlanAnswer, Stop>
-    requires { asked.now.nodes ≤ most_branchings }
+    requires stow { IsSome (names_of asked.now.inputs).stow }
+    requires nodes { asked.now.nodes ≤ most_branchings }
     ensures serves { IsPlanning (planning asked.now) (S.Sink.view shelf.old) (S.Sink.view shelf.new) result }
     ensures ready { IfOk result CanBeTold }
     ensures never_falls { (S.Sink.view shelf.old).faults ≤ (S.Sink.view shelf.new).faults }
     ensures reads_never_fall { (S.Sink.view shelf.old).read_faults ≤ (S.Sink.view shelf.new).read_faults }
 {
-    let job = read_own_job(alloc, &asked.inputs(), shelf)?;
+    let job = read_own_job(alloc, &asked.inputs, shelf)?;
     let way = match own_way(&job) {
         Ok(way) => way,
         Err(broken) => {
@@ -147,12 +147,13 @@ pub fn plan<S: Shelf, K: Sink>(
     asked: &PlanAsked<'_>,
     shelf: &mut S,
     out: &mut K,
-) -> Status
-    requires { asked.now.nodes ≤ most_branchings }
+) -> Ended
+    requires stow { IsSome (names_of asked.now.inputs).stow }
+    requires nodes { asked.now.nodes ≤ most_branchings }
     ensures account { IsPlanRun (planning asked.now) (S.Sink.view shelf.old) (S.Sink.view shelf.new)
-        (K.Sink.view out.old) (K.Sink.view out.new) result }
+        (K.Sink.view out.old) (K.Sink.view out.new) result.status }
     ensures promises { PlanPromises (planning asked.now) (S.Sink.view shelf.old) (S.Sink.view shelf.new)
-        (K.Sink.view out.old) (K.Sink.view out.new) result }
+        (K.Sink.view out.old) (K.Sink.view out.new) result.status }
     ensures never_falls { (S.Sink.view shelf.old).faults ≤ (S.Sink.view shelf.new).faults }
     ensures reads_never_fall { (S.Sink.view shelf.old).read_faults ≤ (S.Sink.view shelf.new).read_faults }
 {

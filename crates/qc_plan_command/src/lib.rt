@@ -8,7 +8,6 @@
 
 mod ahead;
 mod answer;
-mod asked;
 mod command;
 mod found;
 mod nowhere;
@@ -18,5 +17,4 @@ mod room;
 mod way;
 
 pub use answer::{Motion, PlanAnswer, Planned};
-pub use asked::PlanAsked;
 pub use command::plan;

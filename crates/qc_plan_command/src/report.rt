@@ -11,7 +11,7 @@ use qc_gantt::write_tracks;
 use qc_io::{Sink, WriteFault, put_all};
 use qc_model::{Instance, Schedule};
 use qc_num::{Text, Tick};
-use qc_run::{Status, direction_text, report_broken, report_text};
+use qc_run::{Ended, Status, direction_text, report_broken, report_text};
 use qc_search::Kind;
 use qc_store::kind_word;
 
@@ -135,27 +135,27 @@ fn found_status(kind: Kind) -> Status
 }
 
 /// Prints what is told of a plan that was found.
-fn report_planned<K: Sink>(told: Planned, out: &mut K) -> Status
+fn report_planned<K: Sink>(told: Planned, out: &mut K) -> Ended
     requires { IsReady told }
     ensures { Reports (IsPlanPrinted told) (IsPlanCut told) (found_status told.kind)
-        (K.view out.old) (K.view out.new) result }
+        (K.view out.old) (K.view out.new) result.status }
 {
     let status = found_status(told.kind);
     match put_moved(told, out) {
-        Ok(()) => status,
-        Err(WriteFault) => Status::WriteFault,
+        Ok(()) => Ended::of(status),
+        Err(WriteFault) => Ended::of(Status::WriteFault),
     }
 }
 
 /// Prints what a plan came to.
-pub(crate) fn report<K: Sink>(answer: PlanAnswer, out: &mut K) -> Status
+pub(crate) fn report<K: Sink>(answer: PlanAnswer, out: &mut K) -> Ended
     requires { CanBeTold answer }
     ensures { Reports (plan_prints answer) (plan_prints_part answer) (plan_status answer)
-        (K.view out.old) (K.view out.new) result }
+        (K.view out.old) (K.view out.new) result.status }
 {
     match answer {
         PlanAnswer::WriteFault => report_text(Status::WriteFault, b"WriteFault\n", out),
-        PlanAnswer::Broken(told) => report_broken(&told, out),
+        PlanAnswer::Broken(told) => report_broken(told, out),
         PlanAnswer::Planned(told) => report_planned(told, out),
         PlanAnswer::Unplanned { bound, branched } => {
             report_text(

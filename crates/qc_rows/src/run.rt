@@ -93,9 +93,9 @@ fn sink_of(alloc: Global, case: &Case, trial: Trial<'_>) -> Result<MemSink, OutO
 pub fn run(alloc: Global, case: &Case, trial: Trial<'_>) -> Result<Ran, OutOfMemory> {
     let mut shelf = shelf_of(alloc, case, trial)?;
     let mut sink = sink_of(alloc, case, trial)?;
-    let status = qc_top::run(alloc, case.words.as_slice(), &mut shelf, &mut sink).code();
+    let ended = qc_top::run(alloc, case.words.as_slice(), &mut shelf, &mut sink);
     Ok(Ran {
-        status,
+        status: ended.status.code(),
         shelf,
         sink,
     })

@@ -5,6 +5,7 @@ use Rattle.qc_model.specs.declared.turn.Turn.TheVariants.{OneWay}
 use Rattle.qc_run.specs.declared.inputs.Input.{Input}
 use Rattle.qc_run.specs.declared.inputs.Input.TheVariants as input
 use Rattle.qc_run.specs.declared.inputs.Inputs.{Inputs}
+use Rattle.qc_run.specs.declared.inputs.PlanAsked.{PlanAsked}
 
 -- one for each file, by what it is for; none where the command reads no such file; and the turn of the instance: whether
 -- schedules that go one way are asked about, or all that are feasible
@@ -47,6 +48,18 @@ names_of inputs = record {
   log = option_map (λ name. name.now) inputs.log;
   turn = inputs.turn;
 }
+
+-- what a plan is asked for with: the files that are read, with the turn of the plans that are asked about, the names of the
+-- plan's file and of the tree's, which are written, and at most how many branchings
+pub record Planning : Type 0 where
+  pub inputs : Names
+  pub plan : List ℕ
+  pub tree : List ℕ
+  pub nodes : ℕ
+
+abbrev pub planning : PlanAsked → Planning
+planning asked =
+    record { inputs = names_of asked.inputs; plan = asked.plan.now; tree = asked.tree.now; nodes = asked.nodes }
 
 -- the command reads the file whole; a tree's file is read line by line
 abbrev pub IsWhole : Input → Names → Type 0

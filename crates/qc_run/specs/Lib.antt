@@ -3,6 +3,7 @@ pub mod Due
 pub mod Steps
 pub mod Texts
 pub mod Reports
+pub mod Ended
 pub mod Account
 pub mod Told
 pub mod Broken

@@ -1,11 +1,13 @@
 //! What is told of a plan that breaks a rule.
-ghost use Rattle.std.specs.Prelude.{◌≡◌, ◌<◌, ◌≤◌, ◌+◌, ◌++◌, length};
+ghost use Rattle.std.specs.Prelude.{◌≡◌, ◌<◌, ◌≤◌, ◌+◌, ◌++◌, Some, length};
 ghost use Rattle.qc_model.specs.Instance.{task};
 ghost use Rattle.qc_model.specs.Tasks.{task_text};
+ghost use Rattle.qc_run.specs.declared.ended.Cause.TheVariants as cause;
 ghost use Rattle.qc_run.specs.declared.status.Status.TheVariants as status;
 ghost use Rattle.qc_run.specs.Broken.{broken_text, tasks_named};
 ghost use Rattle.qc_run.specs.Reports.{Prints, PrintsPart, Reports};
 
+use crate::ended::{Cause, Ended};
 use crate::report::report_text;
 use crate::status::Status;
 use qc_io::Sink;
@@ -66,10 +68,15 @@ fn broken_text(told: &Broken) -> Text<64>
     text
 }
 
-/// Prints what is told of a plan that breaks a rule.
-pub fn report_broken<K: Sink>(told: &Broken, out: &mut K) -> Status
-    ensures { Reports (Prints (broken_text told.now)) (PrintsPart (broken_text told.now)) status.Broken
-        (K.view out.old) (K.view out.new) result }
+/// Prints what is told of a plan that breaks a rule, and hands it on.
+pub fn report_broken<K: Sink>(told: Broken, out: &mut K) -> Ended
+    ensures report { Reports (Prints (broken_text told)) (PrintsPart (broken_text told)) status.Broken
+        (K.view out.old) (K.view out.new) result.status }
+    ensures cause { result.cause ≡ Some (cause.Broken told) }
 {
-    report_text(Status::Broken, broken_text(told).as_bytes(), out)
+    let status = report_text(Status::Broken, broken_text(&told).as_bytes(), out).status;
+    Ended {
+        status,
+        cause: Some(Cause::Broken(told)),
+    }
 }

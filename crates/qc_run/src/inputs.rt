@@ -1,6 +1,6 @@
 //! The files that a command reads.
-ghost use Rattle.std.specs.Prelude.{◌≡◌, option_map};
-ghost use Rattle.qc_run.specs.Inputs.{name_of, names_of};
+ghost use Rattle.std.specs.Prelude.{◌≡◌, Some, option_map};
+ghost use Rattle.qc_run.specs.Inputs.{name_of, names_of, no_names};
 
 use qc_model::Turn;
 
@@ -30,6 +30,21 @@ pub struct Inputs<'a> {
 }
 
 impl<'a> Inputs<'a> {
+    /// A ship file alone, by schedules that go one way.
+    pub fn of(ship: &'a str) -> Inputs<'a>
+        ensures { names_of result ≡ record no_names { ship = Some ship.now } }
+    {
+        Inputs {
+            ship,
+            stow: None,
+            plan: None,
+            tree: None,
+            own: None,
+            log: None,
+            turn: Turn::OneWay,
+        }
+    }
+
     /// The name of the file that is for this; none where the command reads no such file.
     pub fn name_of(&self, file: Input) -> Option<&'a str>
         ensures { option_map (λ name. name.now) result ≡ name_of file (names_of self.now) }
@@ -43,4 +58,17 @@ impl<'a> Inputs<'a> {
             Input::Log => self.log,
         }
     }
+}
+
+/// What a plan is asked for with.
+#[derive(Clone, Copy)]
+pub struct PlanAsked<'a> {
+    /// The files that are read, and which plans are asked about.
+    pub inputs: Inputs<'a>,
+    /// The plan's file, which is written.
+    pub plan: &'a str,
+    /// The tree's file, which is written.
+    pub tree: &'a str,
+    /// How many branchings the search takes at most.
+    pub nodes: u32,
 }

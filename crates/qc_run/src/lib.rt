@@ -4,10 +4,12 @@
 //! A step comes to what is due of the bytes, or stops for a refusal that is due, with no call
 //! failed, or for its own cause (`read_instance`, `read_job`, `read_own_job`, `read_watched`).
 //! `broken_by` says whether cranes may follow a plan. A report goes out whole with its status, or
-//! the sink failed and got a front part (`report_text`, `report_stop`).
+//! the sink failed and got a front part (`report_text`, `report_stop`); a refusal, and a broken rule, are handed on
+//! for the second voice (`Ended`).
 #![tactic(auto)]
 
 mod broken;
+mod ended;
 mod faults;
 mod inputs;
 mod reading;
@@ -18,7 +20,8 @@ mod status;
 mod watched;
 
 pub use broken::{Broken, broken_of, report_broken};
-pub use inputs::{Input, Inputs};
+pub use ended::{Cause, Ended, Until, Wait};
+pub use inputs::{Input, Inputs, PlanAsked};
 pub use reading::{
     Job, OwnJob, read_input, read_instance, read_job, read_moves, read_own_job, read_schedule,
     read_ship_file,

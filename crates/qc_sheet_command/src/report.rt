@@ -6,7 +6,7 @@ ghost use Rattle.qc_sheet_command.specs.Listed.{CanBeListed, TellsSheet, listing
 
 use crate::answer::{Listed, Listing};
 use qc_io::{Sink, WriteFault};
-use qc_run::{Status, report_broken};
+use qc_run::{Ended, Status, report_broken};
 use qc_sheet::write_sheet;
 
 /// Prints a work sheet.
@@ -31,13 +31,13 @@ fn report_sheet<K: Sink>(told: &Listed, out: &mut K) -> Status
 }
 
 /// Prints what a plan came to whose work sheet is asked for.
-pub(crate) fn report<K: Sink>(answer: Listing, out: &mut K) -> Status
+pub(crate) fn report<K: Sink>(answer: Listing, out: &mut K) -> Ended
     requires { CanBeListed answer }
     ensures { Reports (Prints (listing_text answer)) (PrintsPart (listing_text answer)) (listing_status answer)
-        (K.view out.old) (K.view out.new) result }
+        (K.view out.old) (K.view out.new) result.status }
 {
     match answer {
-        Listing::Broken(told) => report_broken(&told, out),
-        Listing::Listed(told) => report_sheet(&told, out),
+        Listing::Broken(told) => report_broken(told, out),
+        Listing::Listed(told) => Ended::of(report_sheet(&told, out)),
     }
 }

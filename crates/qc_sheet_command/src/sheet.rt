@@ -10,7 +10,7 @@ use crate::load::read_load;
 use crate::report::report;
 use qc_io::{Shelf, Sink};
 use qc_num::OutOfMemory;
-use qc_run::{Inputs, Status, Stop, broken_of, broken_rule, report_stop};
+use qc_run::{Ended, Inputs, Stop, broken_of, broken_rule, report_stop};
 use qc_sheet::Sheet;
 use std::alloc::Global;
 
@@ -44,11 +44,11 @@ pub fn print_sheet<S: Shelf, K: Sink>(
     inputs: &Inputs<'_>,
     shelf: &mut S,
     out: &mut K,
-) -> Status
+) -> Ended
     requires stow { IsSome (names_of inputs.now).stow }
     requires plan { IsSome (names_of inputs.now).plan }
     ensures account { IsReaderRun sheet_reader (names_of inputs.now)
-        (S.Sink.view shelf.old) (S.Sink.view shelf.new) (K.Sink.view out.old) (K.Sink.view out.new) result }
+        (S.Sink.view shelf.old) (S.Sink.view shelf.new) (K.Sink.view out.old) (K.Sink.view out.new) result.status }
     ensures reads_never_fall { (S.Sink.view shelf.old).read_faults ≤ (S.Sink.view shelf.new).read_faults }
 {
     match list(alloc, inputs, shelf) {

@@ -1,31 +1,29 @@
 -- What follows from a run's account of itself.
-use Rattle.std.proofs.Common.{◌≡◌, ◌≢◌, ◌≤◌, ◌⊎◌, Bool, true, false, cond, not, bytes_eq, ◌||◌, IfSome, ℕ, List, [], Option, None, Some, Result, Err, arith, refl, sym, ap, ◌∙◌, subst, inl, inr, codes}
-use Rattle.std.proofs.lemmas.Bool.{and_parts, false_from_ne_true, false≢true, or_left, or_right}
+use Rattle.std.proofs.Common.{◌≡◌, ◌≢◌, ◌≤◌, ◌⊎◌, Bool, true, false, cond, not, bytes_eq, ◌||◌, IfSome, ℕ, List, [], ◌∷◌, Option, None, Some, Result, Err, arith, refl, sym, ap, ◌∙◌, subst, inl, inr, codes}
+use Rattle.std.proofs.lemmas.Bool.{and_parts, false≢true}
 use Rattle.std.proofs.lemmas.Map.Text.{is_eq-slice_cmp}
+use Rattle.std.specs.List.{list_any}
 use Rattle.std.specs.Cmp.Lexicographic.{nat_list_cmp_total}
 use Rattle.std.specs.FinMap.{get, get-insert, insert}
 use Rattle.qc_gantt.specs.PlanText.{plan_text}
 use Rattle.qc_io.specs.Outside.{Files, View, beside}
 use Rattle.qc_dispatch_command.specs.declared.answer.Dispatching.{Dispatching}
 use Rattle.qc_dispatch_command.specs.declared.answer.Dispatching.TheVariants as dispatching
-use Rattle.qc_dispatch_command.specs.Account.{IsDispatching, IsDispatchRun, StopsDispatch, dispatch_report}
+use Rattle.qc_dispatch_command.specs.Account.{IsDispatching, StopsDispatch, dispatch_report}
 use Rattle.qc_dispatch_command.specs.Told.{dispatching_status}
 use Rattle.qc_judge_commands.specs.declared.answer.Showing.{Showing}
 use Rattle.qc_judge_commands.specs.declared.answer.Showing.TheVariants as showing
-use Rattle.qc_judge_commands.specs.Account.{IsJudged, IsPlanCheckRun, IsTreeFound, IsTreeRun, StopsPlan, StopsTree, show_reader, tasks_reader}
-use Rattle.qc_judge_commands.specs.Promises.{PlanCheckPromises, TreePromises}
+use Rattle.qc_judge_commands.specs.Account.{IsJudged, IsTreeFound, StopsPlan, StopsTree, show_reader, tasks_reader}
 use Rattle.qc_judge_commands.specs.Reports.{showing_status}
 use Rattle.qc_judge_commands.proofs.JudgedLemmas.{plan_check_promises}
 use Rattle.qc_judge_commands.proofs.TreeLemmas.{tree_promises}
 use Rattle.qc_model.specs.declared.schedule.Slot.{Slot}
-use Rattle.qc_model.specs.declared.turn.Turn.{Turn}
 use Rattle.qc_model.specs.Instance.{InstanceView}
 use Rattle.qc_picture_command.specs.Account.{picture_reader, report_reader}
 use Rattle.qc_picture_command.specs.declared.answer.Printed.{Printed}
 use Rattle.qc_picture_command.specs.declared.answer.Printed.TheVariants as printed
 use Rattle.qc_picture_command.specs.Planned.{printed_status}
 use Rattle.qc_plan_command.specs.Account.{IsLeft, IsPlanRun, both_files, tree_files}
-use Rattle.qc_plan_command.specs.Asked.{Planning, plan_of}
 use Rattle.qc_plan_command.specs.Promises.{PlanPromises}
 use Rattle.qc_store.specs.Stored.{with_plan}
 use Rattle.qc_plan_command.proofs.PlanLemmas.{plan_promises}
@@ -34,8 +32,9 @@ use Rattle.qc_run.specs.declared.refusal.Stop.{Stop}
 use Rattle.qc_run.specs.declared.refusal.Stop.TheVariants as stop
 use Rattle.qc_run.specs.declared.status.Status.{Status}
 use Rattle.qc_run.specs.declared.status.Status.TheVariants as status
-use Rattle.qc_run.specs.Account.{IsFound, IsReaderRun, IsReading, Reader}
-use Rattle.qc_run.specs.Inputs.{Names}
+use Rattle.qc_run.specs.Account as account
+use Rattle.qc_run.specs.Account.{IsFound, IsReaderRun, IsReading}
+use Rattle.qc_run.specs.Inputs.{Names, Planning}
 use Rattle.qc_run.specs.Reports.{Printing, Prints, PrintsPart, Reports}
 use Rattle.qc_run.specs.Steps.{Stops}
 use Rattle.qc_run.specs.Texts.{stop_status, stop_text}
@@ -54,9 +53,11 @@ use Rattle.qc_watch_command.specs.declared.answer.Watching.TheVariants as watchi
 use Rattle.qc_watch_command.specs.Account.{watch_reader}
 use Rattle.qc_watch_command.specs.Texts.{watching_status}
 use Rattle.qc_words.proofs.LimitLemmas.{asked_kept}
-use Rattle.qc_words.specs.Asked.{Asked, KeepsLimits, are_different, check, dispatch, is_own, make, picture, plan, report, sheet, show, tasks, usage, watch, help, version}
+use Rattle.qc_words.specs.Asked.{Asked, KeepsLimits, are_different, is_same, read, plan, make, help, version, usage}
+use Rattle.qc_words.specs.declared.asked.Reader.{Reader}
+use Rattle.qc_words.specs.declared.asked.Reader.TheVariants as reader
 use Rattle.qc_words.specs.Words.{Asks}
-use Rattle.qc_top.specs.Account.{IsAbout, IsRun, IsRunOf, IsSaid, IsStopped, IsUsage, check_names, dispatch_names, show_names, tasks_names, watch_names}
+use Rattle.qc_top.specs.Account.{IsAbout, IsReadBy, IsRun, IsRunOf, IsSaid, IsStopped, IsUsage}
 use Rattle.qc_top.specs.Promises.{IsPlan, Promises}
 
 -- ---- want of memory for the words, as an answer of each command
@@ -72,33 +73,35 @@ module _ (v pb pa : View) (ended : Status)
   as_plan : (p : Planning) → IsPlanRun p v v pb pa ended
   as_plan p = record { answer = Err stop.OutOfMemory; serves = (refl, tt, refl, refl, refl); reports = reports }
 
-  as_reader : {X A : Type 0} (reader : Reader X A) (names : Names) → IsReaderRun reader names v v pb pa ended
-  as_reader reader names = record {
+  as_reader : {X A : Type 0} (of : account.Reader X A) (names : Names) → IsReaderRun of names v v pb pa ended
+  as_reader of names = record {
     answer = Err stop.OutOfMemory;
-    serves = stopped (IsFound reader.due reader.tells names v.files) (Stops reader.due names v v) names v refl;
+    serves = stopped (IsFound of.due of.tells names v.files) (Stops of.due names v v) names v refl;
     reports = reports;
   }
 
-  as_tree : (names : Names) → IsTreeRun names v v pb pa ended
-  as_tree names = record {
-    answer = Err stop.OutOfMemory;
-    serves = stopped (IsTreeFound names v.files) (StopsTree names v v) names v (refl, λ fault e. absurd (cc e));
-    reports = reports;
-  }
-
-  as_check : (names : Names) → IsPlanCheckRun names v v pb pa ended
-  as_check names = record {
+  as_read : (command : Reader) (names : Names) → IsReadBy command names v v pb pa ended
+  as_read reader.Check names = record {
     answer = Err stop.OutOfMemory;
     serves = stopped (IsJudged names v.files) (StopsPlan names v v) names v (inl refl, λ fault e. absurd (cc e));
     reports = reports;
   }
-
-  as_dispatch : (names : Names) → IsDispatchRun names v v pb pa ended
-  as_dispatch names = record {
+  as_read reader.CheckTree names = record {
+    answer = Err stop.OutOfMemory;
+    serves = stopped (IsTreeFound names v.files) (StopsTree names v v) names v (refl, λ fault e. absurd (cc e));
+    reports = reports;
+  }
+  as_read reader.Tasks names = as_reader tasks_reader names
+  as_read reader.Show names = as_reader show_reader names
+  as_read reader.Sheet names = as_reader sheet_reader names
+  as_read reader.Watch names = as_reader watch_reader names
+  as_read reader.Dispatch names = record {
     answer = Err stop.OutOfMemory;
     serves = stopped (IsDispatching names v.files) (StopsDispatch names v v) names v (inl refl);
     reports = reports;
   }
+  as_read reader.Picture names = as_reader picture_reader names
+  as_read reader.Report names = as_reader report_reader names
 
   as_make : (n k c : ℕ) → IsTrialRun n k c pb pa ended
   as_make n k c = record { answer = Err stop.OutOfMemory; serves = tt; reports = reports }
@@ -125,20 +128,17 @@ dispatch_answers : (a : Dispatching) → IsAnswer (dispatching_status a)
 dispatch_answers (dispatching.Broken told) = tt
 dispatch_answers (dispatching.Dispatched told) = tt
 
--- ---- the names of the files
-
-pub reader_named : {X A : Type 0} {reader : Reader X A} {names now : Names} {before after pb pa : View} {ended : Status} → names ≡ now
-    → IsReaderRun reader names before after pb pa ended → IsReaderRun reader now before after pb pa ended
-reader_named {reader = reader} {before = before} {after = after} {pb = pb} {pa = pa} {ended = ended} same run =
-    subst (λ (names : Names). IsReaderRun reader names before after pb pa ended) same run
-
 -- ---- the report
 
 -- beside the sink nothing changes, whatever is served
+read_kept : (command : Reader) (names : Names) (before after pb pa : View) (ended : Status)
+    → IsReadBy command names before after pb pa ended → (beside pa ≡ beside pb) × (pb.faults ≤ pa.faults)
+read_kept reader.Check names before after pb pa ended h = (h.reports.beside_stays, h.reports.never_falls)
+read_kept other names before after pb pa ended h = (h.reports.beside_stays, h.reports.never_falls)
+
 pub out_kept : (asked : Asked) (before after pb pa : View) (ended : Status) → IsRunOf asked before after pb pa ended
     → (beside pa ≡ beside pb) × (pb.faults ≤ pa.faults)
-out_kept (check turn s w None t) before after pb pa ended h = (h.reports.beside_stays, h.reports.never_falls)
-out_kept (check turn s w (Some p) t) before after pb pa ended h = (h.reports.beside_stays, h.reports.never_falls)
+out_kept (read command names) before after pb pa ended h = read_kept command names before after pb pa ended h
 out_kept (make n k c) before after pb pa ended h = (h.run.reports.beside_stays, h.run.reports.never_falls)
 out_kept (help of) before after pb pa ended h = (h.said.reports.beside_stays, h.said.reports.never_falls)
 out_kept version before after pb pa ended h = (h.said.reports.beside_stays, h.said.reports.never_falls)
@@ -146,14 +146,16 @@ out_kept other before after pb pa ended h = (h.reports.beside_stays, h.reports.n
 
 -- ---- the planner's own plan
 
--- a test of four that fails
-third_fails : (a b c d : Bool) → not (a || b || c || d) ≡ true → c ≡ false
-third_fails a b c d h =
-    false_from_ne_true c (λ t. false≢true (sym (ap not (or_left (a || b || c) d (or_right (a || b) c t))) ∙ h))
+-- a name is none of others, which differ
+apart_parts : (name : Option (List ℕ)) (names : List (Option (List ℕ))) → are_different (name ∷ names) ≡ true
+    → (not (list_any (is_same name) names) ≡ true) × (are_different names ≡ true)
+apart_parts name names = and_parts (not (list_any (is_same name) names)) (are_different names)
 
-fourth_fails : (a b c d : Bool) → not (a || b || c || d) ≡ true → d ≡ false
-fourth_fails a b c d h =
-    false_from_ne_true d (λ t. false≢true (sym (ap not (or_right (a || b || c) d t)) ∙ h))
+-- two tests of which none passes
+none_of : (a b : Bool) → not (a || (b || false)) ≡ true → (a ≡ false) × (b ≡ false)
+none_of true b h = absurd (false≢true h)
+none_of false true h = absurd (false≢true h)
+none_of false false h = (refl, refl)
 
 -- a file of another name is as it was
 get_other : (files : Files) (name bytes other : List ℕ) → bytes_eq other name ≡ false
@@ -206,42 +208,30 @@ module _ (words : List (List ℕ)) (before after pb pa : View) (ended : Status) 
   served Run memory (inl is) = is
   served Run memory (inr h) = subst Run (sym h.untouched) (memory h.reports)
 
-  read : {X A : Type 0} (reader : Reader X A) (names : Names)
-      → IsReaderRun reader names before after pb pa ended ⊎ IsStopped stop.OutOfMemory before after pb pa ended
-      → IsReaderRun reader names before after pb pa ended
-  read reader names =
-      served (λ v. IsReaderRun reader names before v pb pa ended) (λ reports. as_reader before pb pa ended reports reader names)
+  reads : (command : Reader) (names : Names) → Asks words (read command names) → IsReadBy command names before after pb pa ended
+  reads command names asks = served (λ v. IsReadBy command names before v pb pa ended)
+      (λ reports. as_read before pb pa ended reports command names) (serves (read command names) asks)
 
-  plans : (turn : Turn) (s w p t : List ℕ) (n : ℕ) (o : Option (List ℕ)) → Asks words (plan turn s w p t n o)
-      → PlanPromises (plan_of turn s w p t n o) before after pb pa ended
-  plans turn s w p t n o asks =
-      let asked = plan_of turn s w p t n o in
+  plans : (asked : Planning) → Asks words (plan asked) → PlanPromises asked before after pb pa ended
+  plans asked asks =
       plan_promises asked before after pb pa ended
-      (served (λ v. IsPlanRun asked before v pb pa ended) (λ reports. as_plan before pb pa ended reports asked) (serves (plan turn s w p t n o) asks))
+      (served (λ v. IsPlanRun asked before v pb pa ended) (λ reports. as_plan before pb pa ended reports asked) (serves (plan asked) asks))
 
-  own_stays : (turn : Turn) (s w p t : List ℕ) (n : ℕ) (o : List ℕ) → Asks words (plan turn s w p t n (Some o))
-      → IfSome before.files (λ held. IfSome after.files (λ now. get now o ≡ get held o))
-  own_stays turn s w p t n o asks =
-      let limits = subst KeepsLimits asks (asked_kept words) in
-      let apart = (and_parts (are_different s w p t) (is_own (Some o) s w p t) limits.0).1 in
-      all_other (plan_of turn s w p t n (Some o)) o
-      (third_fails (bytes_eq o s) (bytes_eq o w) (bytes_eq o p) (bytes_eq o t) apart)
-      (fourth_fails (bytes_eq o s) (bytes_eq o w) (bytes_eq o p) (bytes_eq o t) apart)
-      before.files after.files (plans turn s w p t n (Some o) asks).plan_stopped
+  own_stays : (asked : Planning) → Asks words (plan asked)
+      → IfSome asked.inputs.own (λ own. IfSome before.files (λ held. IfSome after.files (λ now. get now own ≡ get held own)))
+  own_stays asked asks = by asked.inputs.own (subst KeepsLimits asks (asked_kept words)).1
+    where
+      written : List (Option (List ℕ))
+      written = Some asked.plan ∷ Some asked.tree ∷ []
 
-  checks_tree : (turn : Turn) (s w t : List ℕ) → Asks words (check turn s w None t)
-      → TreePromises (check_names turn s w None t) before after pb pa ended
-  checks_tree turn s w t asks =
-      let names = check_names turn s w None t in
-      tree_promises names before after pb pa ended
-      (served (λ v. IsTreeRun names before v pb pa ended) (λ reports. as_tree before pb pa ended reports names) (serves (check turn s w None t) asks))
-
-  checks_plan : (turn : Turn) (s w p t : List ℕ) → Asks words (check turn s w (Some p) t)
-      → PlanCheckPromises (check_names turn s w (Some p) t) before after pb pa ended
-  checks_plan turn s w p t asks =
-      let names = check_names turn s w (Some p) t in
-      plan_check_promises names before after pb pa ended
-      (served (λ v. IsPlanCheckRun names before v pb pa ended) (λ reports. as_check before pb pa ended reports names) (serves (check turn s w (Some p) t) asks))
+      by : (own : Option (List ℕ)) → are_different (asked.inputs.ship ∷ asked.inputs.stow ∷ own ∷ written) ≡ true
+          → IfSome own (λ own. IfSome before.files (λ held. IfSome after.files (λ now. get now own ≡ get held own)))
+      by None apart = tt
+      by (Some o) apart =
+          let behind_ship = (apart_parts asked.inputs.ship (asked.inputs.stow ∷ Some o ∷ written) apart).1 in
+          let behind_stow = (apart_parts asked.inputs.stow (Some o ∷ written) behind_ship).1 in
+          let none = none_of (bytes_eq o asked.plan) (bytes_eq o asked.tree) (apart_parts (Some o) written behind_stow).0 in
+          all_other asked o none.0 none.1 before.files after.files (plans asked asks).plan_stopped
 
   makes : (n k c : ℕ) → Asks words (make n k c) → TrialPromises n k c pb pa ended
   makes n k c asks = trial_promises n k c pb pa ended (elim (serves (make n k c) asks) [
@@ -274,17 +264,22 @@ module _ (words : List (List ℕ)) (before after pb pa : View) (ended : Status) 
       record { stays = λ never. reads.files_stay; usage_words = λ e. absurd (reads.no_usage e); memory = reads.out_of_memory }
 
   -- a command whose account is all that it says
-  by_reader : {X A : Type 0} (reader : Reader X A) → ((answer : A) → IsAnswer (reader.report.status answer)) → (names : Names) (asked : Asked)
-      → IsReaderRun reader names before after pb pa ended ⊎ IsStopped stop.OutOfMemory before after pb pa ended → Whatever asked
-  by_reader reader answers names asked serves =
-      by_reads asked (reader_promises reader answers names before after pb pa ended (read reader names serves))
+  by_reader : {X A : Type 0} (of : account.Reader X A) → ((answer : A) → IsAnswer (of.report.status answer)) → (names : Names) (asked : Asked)
+      → IsReaderRun of names before after pb pa ended → Whatever asked
+  by_reader of answers names asked is = by_reads asked (reader_promises of answers names before after pb pa ended is)
 
-  by_dispatch : (names : Names) (asked : Asked)
-      → IsDispatchRun names before after pb pa ended ⊎ IsStopped stop.OutOfMemory before after pb pa ended → Whatever asked
-  by_dispatch names asked serves =
+  by_command : (command : Reader) (names : Names) (asked : Asked) → IsReadBy command names before after pb pa ended → Whatever asked
+  by_command reader.Check names asked is = by_reads asked (plan_check_promises names before after pb pa ended is).reads
+  by_command reader.CheckTree names asked is = by_reads asked (tree_promises names before after pb pa ended is).reads
+  by_command reader.Tasks names asked is = by_reader tasks_reader (λ inst. tt) names asked is
+  by_command reader.Show names asked is = by_reader show_reader show_answers names asked is
+  by_command reader.Sheet names asked is = by_reader sheet_reader sheet_answers names asked is
+  by_command reader.Watch names asked is = by_reader watch_reader watch_answers names asked is
+  by_command reader.Dispatch names asked is =
       by_reads asked
-      (reading_promises (IsDispatching names before.files) (StopsDispatch names before after) names dispatch_report dispatch_answers before after pb pa ended
-      (served (λ v. IsDispatchRun names before v pb pa ended) (λ reports. as_dispatch before pb pa ended reports names) serves))
+      (reading_promises (IsDispatching names before.files) (StopsDispatch names before after) names dispatch_report dispatch_answers before after pb pa ended is)
+  by_command reader.Picture names asked is = by_reader picture_reader print_answers names asked is
+  by_command reader.Report names asked is = by_reader report_reader print_answers names asked is
 
   -- something was said, or memory was wanting for the words
   by_said : (asked : Asked) (text : List ℕ) (wanted : Status) → wanted ≢ status.OutOfMemory → (wanted ≡ status.Usage → Asks words usage)
@@ -318,19 +313,10 @@ module _ (words : List (List ℕ)) (before after pb pa : View) (ended : Status) 
   by_about asked (inr h) = by_said asked [] status.Done (λ f. cc f) (λ f. absurd (cc f)) (inr h)
 
   whatever : (asked : Asked) → Asks words asked → Whatever asked
-  whatever (plan turn s w p t n o) asks =
-      let p = plans turn s w p t n o asks in
+  whatever (plan asked) asks =
+      let p = plans asked asks in
       record { stays = λ never. absurd (never tt); usage_words = λ e. absurd (p.no_usage e); memory = p.out_of_memory }
-  whatever (check turn s w None t) asks = by_reads (check turn s w None t) (checks_tree turn s w t asks).reads
-  whatever (check turn s w (Some p) t) asks =
-      by_reads (check turn s w (Some p) t) (checks_plan turn s w p t asks).reads
-  whatever (tasks s w) asks = by_reader tasks_reader (λ inst. tt) (tasks_names s w) (tasks s w) (serves (tasks s w) asks)
-  whatever (show s w p) asks = by_reader show_reader show_answers (show_names s w p) (show s w p) (serves (show s w p) asks)
-  whatever (sheet s w p) asks = by_reader sheet_reader sheet_answers (show_names s w p) (sheet s w p) (serves (sheet s w p) asks)
-  whatever (picture s w p) asks = by_reader picture_reader print_answers (show_names s w p) (picture s w p) (serves (picture s w p) asks)
-  whatever (report s w p) asks = by_reader report_reader print_answers (show_names s w p) (report s w p) (serves (report s w p) asks)
-  whatever (watch s l) asks = by_reader watch_reader watch_answers (watch_names s l) (watch s l) (serves (watch s l) asks)
-  whatever (dispatch s w p l) asks = by_dispatch (dispatch_names s w p l) (dispatch s w p l) (serves (dispatch s w p l) asks)
+  whatever (read command names) asks = by_command command names (read command names) (reads command names asks)
   whatever (make n k c) asks = record {
     stays = λ never. ap (λ (v : View). v.files) (make_leaves n k c asks);
     usage_words = λ e. absurd ((makes n k c asks).no_usage e);
@@ -345,8 +331,8 @@ module _ (words : List (List ℕ)) (before after pb pa : View) (ended : Status) 
   promises = record {
     plans = plans;
     own_stays = own_stays;
-    checks_tree = checks_tree;
-    checks_plan = checks_plan;
+    checks_tree = λ names asks. tree_promises names before after pb pa ended (reads reader.CheckTree names asks);
+    checks_plan = λ names asks. plan_check_promises names before after pb pa ended (reads reader.Check names asks);
     makes = makes;
     make_leaves = make_leaves;
     files_stay = λ asked asks. (whatever asked asks).stays;

@@ -7,4 +7,4 @@
 mod program;
 
 pub use program::run;
-pub use qc_run::Status;
+pub use qc_run::{Ended, Status};

@@ -14,7 +14,7 @@ use qc_io::{MemShelf, Sink};
 use qc_make::{list_text, ship_text};
 use qc_model::{Instance, ends};
 use qc_num::Tick;
-use qc_run::{Refusal, Status, Stop, report_stop, report_text};
+use qc_run::{Ended, Refusal, Status, Stop, report_stop, report_text};
 use qc_search::Done;
 use qc_ship::{Ship, ShipError, read_ship};
 use qc_stow::{Moves, StowError, read_stow};
@@ -102,11 +102,11 @@ fn try_out(alloc: Global, number: u32, hatches: u16, cranes: u16) -> Result<Made
 }
 
 /// Makes a ship and a list from a number, plans and checks them, and prints a summary.
-pub fn make<K: Sink>(alloc: Global, number: u32, hatches: u16, cranes: u16, out: &mut K) -> Status
+pub fn make<K: Sink>(alloc: Global, number: u32, hatches: u16, cranes: u16, out: &mut K) -> Ended
     requires hatches { (1 ≤ hatches) × (hatches ≤ MOST_HATCHES) }
     requires cranes { (1 ≤ cranes) × (cranes ≤ MOST_CRANES) }
-    ensures account { IsTrialRun number hatches cranes (K.view out.old) (K.view out.new) result }
-    ensures promises { TrialPromises number hatches cranes (K.view out.old) (K.view out.new) result }
+    ensures account { IsTrialRun number hatches cranes (K.view out.old) (K.view out.new) result.status }
+    ensures promises { TrialPromises number hatches cranes (K.view out.old) (K.view out.new) result.status }
 {
     match try_out(alloc, number, hatches, cranes) {
         Ok(told) => report_text(Status::Done, made_text(&told).as_bytes(), out),

@@ -3,8 +3,8 @@ ghost use Rattle.std.specs.Prelude.{None};
 ghost use Rattle.qc_io.specs.Outside.{sink_view};
 
 use crate::voice::explain;
-use qc_io::{Failed, Sink, fault, put_all};
-use qc_run::Status;
+use qc_io::{Failed, Sink, fault};
+use qc_run::{Ended, Status};
 use qc_system::FileShelf;
 use std::fmt::Display;
 use std::io::{self, ErrorKind};
@@ -70,12 +70,12 @@ fn say_unwritten<R: Eprint + AllocGlobal>(
     say_why(rt, why);
 }
 
-/// Says what is to be mended after a run with these words that ended so, and what is worth a note. `printing` is what
+/// Says what is to be mended after a run with these words that came to this, and what is worth a note. `printing` is what
 /// the system said of standard output.
 pub fn say_after<R: Files + Eprint + AllocGlobal>(
     rt: &R,
     words: &[String],
-    ended: Status,
+    ended: &Ended,
     shelf: &mut FileShelf<'_, R>,
     printing: Option<io::Error>,
 )
@@ -83,7 +83,7 @@ where
     R::File: AsFd,
 {
     let trouble = shelf.trouble();
-    if ended == Status::WriteFault {
+    if ended.status == Status::WriteFault {
         return say_unwritten(rt, trouble, printing);
     }
     shelf.read_again();
@@ -94,7 +94,7 @@ where
         shelf,
         &mut Voice { rt, faults: 0 },
     );
-    if ended == Status::ReadFault {
+    if ended.status == Status::ReadFault {
         if let Some((_, why)) = trouble {
             say_why(rt, why);
         }

@@ -1,201 +1,91 @@
-//! The files that a command was given, read again.
+//! The files that a command was given, and what is read of them again.
 ghost use Rattle.qc_voice.specs.Frame.{LeavesFiles};
 
 use qc_io::{ReadAll, Shelf, read_all};
-use qc_model::Turn;
+use qc_model::Instance;
 use qc_num::{Bytes, OutOfMemory};
+use qc_page::Page;
+use qc_run::Inputs;
+use qc_ship::{Ship, ShipError, read_ship};
+use qc_stow::{StowError, read_stow};
+use qc_tasks::tasks_of;
 use qc_words::Request;
-use std::alloc::Global;
 
 /// The greatest length of a file that is read whole, in bytes.
 const FILE_LIMIT: usize = 8_388_608;
 
-/// The names of the files that a command reads, and of the plan that it writes; and which schedules it asks about.
+/// The names of the files that a command reads, and of the plan that it writes.
 #[derive(Clone, Copy)]
 pub(crate) struct Names<'a> {
-    pub(crate) ship: Option<&'a str>,
-    pub(crate) stow: Option<&'a str>,
-    pub(crate) plan: Option<&'a str>,
-    pub(crate) own: Option<&'a str>,
-    pub(crate) tree: Option<&'a str>,
-    pub(crate) log: Option<&'a str>,
+    pub(crate) read: Inputs<'a>,
     pub(crate) written: Option<&'a str>,
-    pub(crate) turn: Turn,
 }
 
-/// No names.
-fn no_names<'a>() -> Names<'a> {
-    Names {
-        ship: None,
-        stow: None,
-        plan: None,
-        own: None,
-        tree: None,
-        log: None,
-        written: None,
-        turn: Turn::OneWay,
-    }
-}
-
-/// The names of a command that reads a ship file and a list, and a plan where one is named.
-fn of_plan<'a>(ship: &'a str, stow: &'a str, plan: Option<&'a str>) -> Names<'a> {
-    Names {
-        ship: Some(ship),
-        stow: Some(stow),
-        plan,
-        ..no_names()
-    }
-}
-
-/// The names of the files of a command that shows a plan; none for one that reads no file.
-fn of_shown<'a>(request: &Request<'a>) -> Names<'a> {
+/// The names of the files of a request; none where it reads no file.
+pub(crate) fn names_of<'a>(request: &Request<'a>) -> Option<Names<'a>> {
     match *request {
-        Request::Show { ship, stow, plan }
-        | Request::Sheet { ship, stow, plan }
-        | Request::Picture { ship, stow, plan }
-        | Request::Report { ship, stow, plan } => of_plan(ship, stow, Some(plan)),
-        _ => no_names(),
+        Request::Reads(_, read) => Some(Names {
+            read,
+            written: None,
+        }),
+        Request::Plans(asked) => Some(Names {
+            read: asked.inputs,
+            written: Some(asked.plan),
+        }),
+        Request::Make { .. } | Request::Help(_) | Request::Version | Request::Usage => None,
     }
 }
 
-/// The names of the files of a command that reads a log or shows a plan; none for one that reads no file.
-fn of_logged<'a>(request: &Request<'a>) -> Names<'a> {
-    match *request {
-        Request::Dispatch {
-            ship,
-            stow,
-            plan,
-            log,
-        } => Names {
-            log: Some(log),
-            ..of_plan(ship, stow, Some(plan))
-        },
-        Request::Watch { ship, log } => Names {
-            ship: Some(ship),
-            log: Some(log),
-            ..no_names()
-        },
-        _ => of_shown(request),
-    }
-}
-
-/// The names of the files of a request.
-pub(crate) fn names_of<'a>(request: &Request<'a>) -> Names<'a> {
-    match *request {
-        Request::Plan {
-            turn,
-            ship,
-            stow,
-            plan,
-            own,
-            ..
-        } => Names {
-            turn,
-            own,
-            written: Some(plan),
-            ..of_plan(ship, stow, None)
-        },
-        Request::Check {
-            turn,
-            ship,
-            stow,
-            plan,
-            tree,
-        } => Names {
-            turn,
-            tree: Some(tree),
-            ..of_plan(ship, stow, plan)
-        },
-        Request::Tasks { ship, stow } => of_plan(ship, stow, None),
-        _ => of_logged(request),
-    }
-}
-
-/// A file read again.
-pub(crate) enum Text {
-    /// The command reads no such file.
-    Unnamed,
-    /// It isn't there, or can't be read again.
-    Unread,
-    TooLarge,
-    Read(Bytes),
-}
-
-// By name and not derived: then a function that lets several go has one call for each, in place of all cases of each.
-impl Drop for Text {
-    fn drop(self) {
-        match self {
-            Text::Unnamed | Text::Unread | Text::TooLarge | Text::Read(_) => {}
-        }
-    }
-}
-
-impl Text {
-    /// The bytes, where it was read.
-    pub(crate) fn bytes(&self) -> Option<&[u8]> {
-        match self {
-            Text::Read(bytes) => Some(bytes.as_slice()),
-            _ => None,
-        }
-    }
-}
-
-/// Reads a file again.
-pub(crate) fn read_text<S: Shelf>(
-    alloc: Global,
+/// A file, read again, with its name; none where none is named, or where it can't be read again or is too large.
+pub(crate) fn again<'a, S: Shelf>(
+    page: &mut Page,
     shelf: &mut S,
-    name: Option<&str>,
-) -> Result<Text, OutOfMemory>
+    name: Option<&'a str>,
+) -> Option<(&'a str, Bytes)>
     ensures { LeavesFiles (S.Sink.view shelf.old) (S.Sink.view shelf.new) }
 {
     let Some(name) = name else {
-        return Ok(Text::Unnamed);
+        return None;
     };
-    match read_all(alloc, shelf, name, FILE_LIMIT) {
-        Ok(bytes) => Ok(Text::Read(bytes)),
-        Err(ReadAll::ReadFault) => Ok(Text::Unread),
-        Err(ReadAll::TooLarge) => Ok(Text::TooLarge),
-        Err(ReadAll::OutOfMemory) => Err(OutOfMemory),
+    match read_all(page.alloc(), shelf, name, FILE_LIMIT) {
+        Ok(bytes) => Some((name, bytes)),
+        Err(ReadAll::ReadFault | ReadAll::TooLarge) => None,
+        Err(ReadAll::OutOfMemory) => page.unless_short(Err(OutOfMemory)),
     }
 }
 
-/// The files of a command, but for a tree's.
-pub(crate) struct Texts {
-    pub(crate) ship: Text,
-    pub(crate) stow: Text,
-    /// The plan, or the one that the planner has already.
-    pub(crate) plan: Text,
-    pub(crate) log: Text,
-}
-
-// By name too, for the same reason.
-impl Drop for Texts {
-    fn drop(self) {
-        let Texts {
-            ship: _,
-            stow: _,
-            plan: _,
-            log: _,
-        } = self;
+/// The ship of a ship file; none where that has a fault.
+pub(crate) fn ship_of(page: &mut Page, bytes: &[u8]) -> Option<Ship> {
+    match read_ship(page.alloc(), bytes) {
+        Ok(ship) => Some(ship),
+        Err(ShipError::Fault(_)) => None,
+        Err(ShipError::OutOfMemory) => page.unless_short(Err(OutOfMemory)),
     }
 }
 
-/// Reads the files of a command again, but for a tree's.
-pub(crate) fn read_texts<S: Shelf>(
-    alloc: Global,
+/// The instance of a ship and its list; none where the list has a fault.
+fn instance_in(page: &mut Page, ship: &Ship, bytes: &[u8]) -> Option<Instance> {
+    match read_stow(page.alloc(), bytes, ship) {
+        Ok(moves) => {
+            let inst = tasks_of(page.alloc(), ship, &moves);
+            drop(moves);
+            page.unless_short(inst)
+        }
+        Err(StowError::Fault(_)) => None,
+        Err(StowError::OutOfMemory) => page.unless_short(Err(OutOfMemory)),
+    }
+}
+
+/// The instance of a ship file and of the list, which is read again; none where one of them has a fault.
+pub(crate) fn instance_of<S: Shelf>(
+    page: &mut Page,
     shelf: &mut S,
-    names: &Names<'_>,
-) -> Result<Texts, OutOfMemory>
+    inputs: &Inputs<'_>,
+    ship: &[u8],
+) -> Option<Instance>
     ensures { LeavesFiles (S.Sink.view shelf.old) (S.Sink.view shelf.new) }
 {
-    let ship = read_text(alloc, shelf, names.ship)?;
-    let stow = read_text(alloc, shelf, names.stow)?;
-    let plan = read_text(alloc, shelf, names.plan.or(names.own))?;
-    let log = read_text(alloc, shelf, names.log)?;
-    Ok(Texts {
-        ship,
-        stow,
-        plan,
-        log,
-    })
+    let (_, list) = again(page, shelf, inputs.stow)?;
+    let ship = ship_of(page, ship)?;
+    instance_in(page, &ship, list.as_slice())
 }

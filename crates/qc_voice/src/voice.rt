@@ -3,255 +3,168 @@ ghost use Rattle.std.specs.Prelude.{◌≡◌};
 ghost use Rattle.qc_io.specs.Outside.{beside};
 ghost use Rattle.qc_voice.specs.Frame.{LeavesFiles};
 
-use crate::texts::{Names, Text, Texts, names_of, read_text, read_texts};
+use crate::texts::{Names, again, instance_of, names_of, ship_of};
 use qc_explain::{
     say_broken, say_course, say_infeasible, say_log, say_plan, say_spent, say_tree, say_waits,
 };
+use qc_gantt::PlanFault;
 use qc_hints::{counts_decimetres, say_notes, say_ship, say_stow, say_usage};
 use qc_io::{Shelf, Sink, put_all};
-use qc_model::{Instance, Turn};
-use qc_num::OutOfMemory;
+use qc_num::Bytes;
 use qc_page::Page;
-use qc_replay::{ReplayError, replay};
-use qc_run::Status;
-use qc_ship::{Ship, ShipError, read_ship};
-use qc_stow::{StowError, read_stow};
-use qc_tasks::tasks_of;
+use qc_run::{Broken, Cause, Ended, Input, Inputs, LogFault, Refusal, Status};
+use qc_ship::ShipFault;
+use qc_stow::StowFault;
 use qc_tree::TreeFault;
-use qc_words::{Request, request_of};
+use qc_words::request_of;
 use std::alloc::Global;
 
-/// The ship of a file; none where it has a fault.
-fn ship_in(alloc: Global, text: &Text) -> Result<Option<Ship>, OutOfMemory> {
-    let Some(bytes) = text.bytes() else {
-        return Ok(None);
-    };
-    match read_ship(alloc, bytes) {
-        Ok(ship) => Ok(Some(ship)),
-        Err(ShipError::Fault(_)) => Ok(None),
-        Err(ShipError::OutOfMemory) => Err(OutOfMemory),
+/// The word for a file in the usage text.
+fn word_of(file: Input) -> &'static str {
+    match file {
+        Input::Ship => "SHIP",
+        Input::Stow => "STOW",
+        Input::Plan => "PLAN",
+        Input::Tree => "TREE",
+        Input::Own => "OWN",
+        Input::Log => "LOG",
     }
 }
 
-/// The instance of a ship and its list; none where the list has a fault.
-fn instance_in(alloc: Global, ship: &Ship, text: &Text) -> Result<Option<Instance>, OutOfMemory> {
-    let Some(bytes) = text.bytes() else {
-        return Ok(None);
-    };
-    match read_stow(alloc, bytes, ship) {
-        Ok(moves) => {
-            let inst = tasks_of(alloc, ship, &moves);
-            drop(moves);
-            Ok(Some(inst?))
-        }
-        Err(StowError::Fault(_)) => Ok(None),
-        Err(StowError::OutOfMemory) => Err(OutOfMemory),
-    }
-}
-
-/// The instance of the ship file and the list, with this turn; none where one of them has a fault.
-fn turned_instance(
-    alloc: Global,
-    texts: &Texts,
-    turn: Turn,
-) -> Result<Option<Instance>, OutOfMemory> {
-    match instance_of(alloc, texts)? {
-        Some(inst) => Ok(Some(inst.with_turn(turn))),
-        None => Ok(None),
-    }
-}
-
-/// The instance of the ship file and the list; none where one of them has a fault.
-fn instance_of(alloc: Global, texts: &Texts) -> Result<Option<Instance>, OutOfMemory> {
-    match ship_in(alloc, &texts.ship)? {
-        Some(ship) => {
-            let inst = instance_in(alloc, &ship, &texts.stow);
-            drop(ship);
-            inst
-        }
-        None => Ok(None),
-    }
-}
-
-/// Says that a file couldn't be read, or is too large, by its word in the usage text and its name; and answers whether
-/// it is so.
-fn say_if_unread(page: &mut Page, word: &str, name: Option<&str>, text: &Text) -> bool {
-    let why = match text {
-        Text::Unread => ", isn't there or can't be read",
-        Text::TooLarge => ", has more than 8388608 bytes, and may have no more",
-        Text::Unnamed | Text::Read(_) => return false,
-    };
-    let Some(name) = name else {
-        return false;
-    };
-    page.line()
-        .word(name)
-        .text(": this file, ")
-        .text(word)
-        .text(why)
-        .end();
-    true
-}
-
-/// Says which file couldn't be read, or is too large: the first, and where the others can be read again a tree's.
-fn say_unread(page: &mut Page, names: &Names<'_>, texts: &Texts) {
-    let _is_said = say_if_unread(page, "SHIP", names.ship, &texts.ship)
-        || say_if_unread(page, "STOW", names.stow, &texts.stow)
-        || say_if_unread(page, "PLAN", names.plan, &texts.plan)
-        || say_if_unread(page, "OWN", names.own, &texts.plan)
-        || say_if_unread(page, "LOG", names.log, &texts.log)
-        || say_if_unread(page, "TREE", names.tree, &Text::Unread);
-}
-
-/// Says what is wrong with the list.
-fn say_bad_stow(page: &mut Page, names: &Names<'_>, texts: &Texts) {
-    let (Some(name), Some(bytes)) = (names.stow, texts.stow.bytes()) else {
-        return;
-    };
-    if let Some(Some(ship)) = page.unless_short(ship_in(page.alloc(), &texts.ship)) {
-        say_stow(page, name, bytes, &ship)
-    }
-}
-
-/// Says what is wrong with the log.
-fn say_bad_log(page: &mut Page, names: &Names<'_>, texts: &Texts) {
-    let (Some(name), Some(bytes)) = (names.log, texts.log.bytes()) else {
-        return;
-    };
-    if let Some(plan) = texts.plan.bytes() {
-        if let Some(Some(inst)) = page.unless_short(instance_of(page.alloc(), texts)) {
-            say_course(page, name, bytes, &inst, plan)
-        }
-        return;
-    }
-    if let Some(Some(ship)) = page.unless_short(ship_in(page.alloc(), &texts.ship)) {
-        say_log(page, name, bytes, &ship)
-    }
-}
-
-/// Says what cranes wait for, where a plan was followed by a log.
-fn say_what_waits(page: &mut Page, texts: &Texts) {
-    let (Some(plan), Some(log)) = (texts.plan.bytes(), texts.log.bytes()) else {
-        return;
-    };
-    if let Some(Some(inst)) = page.unless_short(instance_of(page.alloc(), texts)) {
-        say_waits(page, log, &inst, plan)
-    }
-}
-
-/// Says what is wrong with the plan, as a table or, where that is in order, as a plan that is worked.
-fn say_bad_plan(page: &mut Page, names: &Names<'_>, texts: &Texts, ended: Status) {
-    let (Some(name), Some(bytes)) = (names.plan.or(names.own), texts.plan.bytes()) else {
-        return;
-    };
-    let Some(Some(inst)) = page.unless_short(instance_of(page.alloc(), texts)) else {
-        return;
-    };
-    if ended == Status::BadPlan {
-        return say_plan(page, name, bytes, &inst);
-    }
-    let in_decimetres = is_in_decimetres(page.alloc(), &texts.ship);
-    if let Some(in_decimetres) = page.unless_short(in_decimetres) {
-        say_broken(page, name, bytes, &inst, in_decimetres)
-    }
-}
-
-/// Whether a ship file counts places in decimetres.
-fn is_in_decimetres(alloc: Global, text: &Text) -> Result<bool, OutOfMemory> {
-    match text.bytes() {
-        Some(bytes) => counts_decimetres(alloc, bytes),
-        None => Ok(false),
+/// Says which file couldn't be read, or is too large, by its word in the usage text and its name.
+fn say_unread(page: &mut Page, inputs: &Inputs<'_>, file: Input, why: &str) {
+    if let Some(name) = inputs.name_of(file) {
+        page.line()
+            .word(name)
+            .text(": this file, ")
+            .text(word_of(file))
+            .text(why)
+            .end()
     }
 }
 
 /// Says what is wrong with the ship file.
-fn say_bad_ship(page: &mut Page, names: &Names<'_>, texts: &Texts) {
-    match (names.ship, texts.ship.bytes()) {
-        (Some(name), Some(bytes)) => say_ship(page, name, bytes),
-        _ => {}
+fn say_bad_ship<S: Shelf>(page: &mut Page, shelf: &mut S, inputs: &Inputs<'_>, fault: ShipFault)
+    ensures { LeavesFiles (S.Sink.view shelf.old) (S.Sink.view shelf.new) }
+{
+    if let Some((name, ship)) = again(page, shelf, Some(inputs.ship)) {
+        say_ship(page, name, ship.as_slice(), fault)
     }
 }
 
-/// Says the notes on the ship file.
-fn say_ship_notes(page: &mut Page, names: &Names<'_>, texts: &Texts) {
-    match (names.ship, texts.ship.bytes()) {
-        (Some(name), Some(bytes)) => say_notes(page, name, bytes),
-        _ => {}
-    }
-}
-
-/// Says what may help on where a search came to no plan.
-fn say_planless(page: &mut Page, names: &Names<'_>, texts: &Texts, ended: Status) {
-    if names.written.is_none() {
+/// Says what is wrong with the list.
+fn say_bad_stow<S: Shelf>(page: &mut Page, shelf: &mut S, inputs: &Inputs<'_>, fault: StowFault)
+    ensures { LeavesFiles (S.Sink.view shelf.old) (S.Sink.view shelf.new) }
+{
+    let Some((_, ship)) = again(page, shelf, Some(inputs.ship)) else {
         return;
-    }
-    if ended == Status::BudgetNone {
-        return say_spent(page);
-    }
-    let inst = turned_instance(page.alloc(), texts, names.turn);
-    if let Some(Some(inst)) = page.unless_short(inst) {
-        say_infeasible(page, &inst)
-    }
-}
-
-/// Says what there is to say of the files that are read whole.
-fn say_texts(page: &mut Page, names: &Names<'_>, texts: &Texts, ended: Status) {
-    match ended {
-        Status::ReadFault | Status::TooLarge => say_unread(page, names, texts),
-        Status::BadShip => say_bad_ship(page, names, texts),
-        Status::BadStow => say_bad_stow(page, names, texts),
-        Status::BadPlan => say_bad_plan(page, names, texts, ended),
-        Status::BadLog => say_bad_log(page, names, texts),
-        Status::Broken => {
-            say_bad_plan(page, names, texts, ended);
-            say_ship_notes(page, names, texts)
-        }
-        Status::OutOfMemory => page
-            .line()
-            .text("the system gave no more memory; no file was changed")
-            .end(),
-        Status::Usage | Status::WriteFault | Status::BadTree => {}
-        Status::Infeasible | Status::BudgetNone => {
-            say_ship_notes(page, names, texts);
-            say_planless(page, names, texts, ended)
-        }
-        Status::Done => {
-            say_ship_notes(page, names, texts);
-            say_what_waits(page, texts)
-        }
-        Status::Optimal | Status::BudgetPlan | Status::Weaker | Status::Breach => {
-            say_ship_notes(page, names, texts)
-        }
+    };
+    let Some((name, list)) = again(page, shelf, inputs.stow) else {
+        return;
+    };
+    if let Some(ship) = ship_of(page, ship.as_slice()) {
+        say_stow(page, name, list.as_slice(), &ship, fault)
     }
 }
 
-/// The first fault of a tree's file; none where it has none or can't be read again.
-fn tree_fault<S: Shelf>(
-    alloc: Global,
-    inst: &Instance,
+/// The plan that a command reads, or the one that the planner has already, read again.
+fn plan_again<'a, S: Shelf>(
+    page: &mut Page,
     shelf: &mut S,
-    name: &str,
-) -> Option<TreeFault>
+    inputs: &Inputs<'a>,
+) -> Option<(&'a str, Bytes)>
     ensures { LeavesFiles (S.Sink.view shelf.old) (S.Sink.view shelf.new) }
 {
-    match replay(alloc, inst, shelf, name) {
-        Err(ReplayError::Tree(fault)) => Some(fault),
-        _ => None,
+    again(page, shelf, inputs.plan.or(inputs.own))
+}
+
+/// Says what is wrong with the table of the plan.
+fn say_bad_plan<S: Shelf>(page: &mut Page, shelf: &mut S, inputs: &Inputs<'_>, fault: PlanFault)
+    ensures { LeavesFiles (S.Sink.view shelf.old) (S.Sink.view shelf.new) }
+{
+    let Some((_, ship)) = again(page, shelf, Some(inputs.ship)) else {
+        return;
+    };
+    let Some((name, plan)) = plan_again(page, shelf, inputs) else {
+        return;
+    };
+    if let Some(inst) = instance_of(page, shelf, inputs, ship.as_slice()) {
+        say_plan(page, name, plan.as_slice(), &inst, fault)
     }
 }
 
-/// Says what is wrong with a tree's file.
-fn say_bad_tree<S: Shelf>(page: &mut Page, shelf: &mut S, name: &str, inst: &Instance)
+/// Says what is wrong with the tree.
+fn say_bad_tree<S: Shelf>(page: &mut Page, shelf: &mut S, inputs: &Inputs<'_>, fault: TreeFault)
     ensures { LeavesFiles (S.Sink.view shelf.old) (S.Sink.view shelf.new) }
 {
-    let Some(fault) = tree_fault(page.alloc(), inst, shelf, name) else {
+    if let Some((name, tree)) = again(page, shelf, inputs.tree) {
+        say_tree(page, name, tree.as_slice(), inputs.turn, fault)
+    }
+}
+
+/// Says what is wrong with the log.
+fn say_bad_log<S: Shelf>(page: &mut Page, shelf: &mut S, inputs: &Inputs<'_>, fault: LogFault)
+    ensures { LeavesFiles (S.Sink.view shelf.old) (S.Sink.view shelf.new) }
+{
+    let Some((name, log)) = again(page, shelf, inputs.log) else {
         return;
     };
-    let text = read_text(page.alloc(), shelf, Some(name));
-    let Some(text) = page.unless_short(text) else {
+    match fault {
+        LogFault::Dispatch(fault) => say_course(page, name, log.as_slice(), fault),
+        LogFault::Watch(fault) => {
+            let Some((_, ship)) = again(page, shelf, Some(inputs.ship)) else {
+                return;
+            };
+            if let Some(ship) = ship_of(page, ship.as_slice()) {
+                say_log(page, name, log.as_slice(), &ship, fault)
+            }
+        }
+    }
+}
+
+/// Says why a command wasn't served.
+fn say_refusal<S: Shelf>(page: &mut Page, shelf: &mut S, inputs: &Inputs<'_>, why: Refusal)
+    ensures { LeavesFiles (S.Sink.view shelf.old) (S.Sink.view shelf.new) }
+{
+    match why {
+        Refusal::Usage => {}
+        Refusal::ReadFault(file) => {
+            say_unread(page, inputs, file, ", isn't there or can't be read")
+        }
+        Refusal::TooLarge(file) => say_unread(
+            page,
+            inputs,
+            file,
+            ", has more than 8388608 bytes, and may have no more",
+        ),
+        Refusal::BadShip(fault) => say_bad_ship(page, shelf, inputs, fault),
+        Refusal::BadStow(fault) => say_bad_stow(page, shelf, inputs, fault),
+        Refusal::BadPlan(fault) => say_bad_plan(page, shelf, inputs, fault),
+        Refusal::BadTree(fault) => say_bad_tree(page, shelf, inputs, fault),
+        Refusal::BadLog(fault) => say_bad_log(page, shelf, inputs, fault),
+    }
+}
+
+/// Says how the plan breaks a rule.
+fn say_break<S: Shelf>(
+    page: &mut Page,
+    shelf: &mut S,
+    inputs: &Inputs<'_>,
+    ship: &[u8],
+    told: &Broken,
+)
+    ensures { LeavesFiles (S.Sink.view shelf.old) (S.Sink.view shelf.new) }
+{
+    let Some((name, plan)) = plan_again(page, shelf, inputs) else {
         return;
     };
-    say_tree(page, name, text.bytes().unwrap_or(&[]), inst.turn(), fault)
+    let Some(inst) = instance_of(page, shelf, inputs, ship) else {
+        return;
+    };
+    let in_decimetres = counts_decimetres(page.alloc(), ship);
+    if let Some(in_decimetres) = page.unless_short(in_decimetres) {
+        say_broken(page, name, plan.as_slice(), &inst, in_decimetres, told)
+    }
 }
 
 /// Says that a plan isn't of this run, where there is one.
@@ -268,64 +181,99 @@ fn say_stale<S: Shelf>(page: &mut Page, shelf: &mut S, name: &str)
         .end()
 }
 
-/// Says what there is to say of the files that are read otherwise: a tree's, and a plan that wasn't written.
-fn say_others<S: Shelf>(
-    page: &mut Page,
-    shelf: &mut S,
-    names: &Names<'_>,
-    inst: Option<Instance>,
-    ended: Status,
-)
+/// Says why there is no plan, or where one may be found.
+fn say_no_plan<S: Shelf>(page: &mut Page, shelf: &mut S, inputs: &Inputs<'_>, ship: &[u8])
     ensures { LeavesFiles (S.Sink.view shelf.old) (S.Sink.view shelf.new) }
 {
-    match (ended, names.tree, names.written, &inst) {
-        (Status::BadTree, Some(name), _, Some(inst)) => say_bad_tree(page, shelf, name, inst),
-        (Status::Infeasible | Status::BudgetNone, _, Some(name), _) => say_stale(page, shelf, name),
-        _ => {}
+    if let Some(inst) = instance_of(page, shelf, inputs, ship) {
+        say_infeasible(page, &inst, inputs.turn)
+    }
+}
+
+/// Says how the plan breaks a rule, where it does, what is to be noted on the ship file, and why there is no plan, where
+/// one was looked for.
+fn say_on_ship<S: Shelf>(page: &mut Page, shelf: &mut S, names: &Names<'_>, ended: &Ended)
+    ensures { LeavesFiles (S.Sink.view shelf.old) (S.Sink.view shelf.new) }
+{
+    let Some((name, ship)) = again(page, shelf, Some(names.read.ship)) else {
+        return;
+    };
+    let ship = ship.as_slice();
+    if let Some(Cause::Broken(told)) = &ended.cause {
+        say_break(page, shelf, &names.read, ship, told);
+    }
+    say_notes(page, name, ship);
+    if ended.status == Status::Infeasible && names.written.is_some() {
+        say_no_plan(page, shelf, &names.read, ship)
+    }
+}
+
+/// Says that what is at the name of the plan that was to be written isn't one of this run.
+fn say_unwritten<S: Shelf>(page: &mut Page, shelf: &mut S, name: Option<&str>, ended: Status)
+    ensures { LeavesFiles (S.Sink.view shelf.old) (S.Sink.view shelf.new) }
+{
+    let Some(name) = name else {
+        return;
+    };
+    if ended == Status::BudgetNone {
+        say_spent(page);
+    }
+    if ended == Status::BudgetNone || ended == Status::Infeasible {
+        say_stale(page, shelf, name)
+    }
+}
+
+/// Says what there is to say of a run whose files were read.
+fn say_served<S: Shelf>(page: &mut Page, shelf: &mut S, names: &Names<'_>, ended: &Ended)
+    ensures { LeavesFiles (S.Sink.view shelf.old) (S.Sink.view shelf.new) }
+{
+    say_on_ship(page, shelf, names, ended);
+    match &ended.cause {
+        Some(Cause::Waits(waits)) => say_waits(page, waits.as_slice()),
+        _ => say_unwritten(page, shelf, names.written, ended.status),
     }
 }
 
 /// Says what there is to say of a run with these files.
-fn say_files<S: Shelf>(page: &mut Page, shelf: &mut S, names: &Names<'_>, ended: Status)
+fn say_files<S: Shelf>(page: &mut Page, shelf: &mut S, names: &Names<'_>, ended: &Ended)
     ensures { LeavesFiles (S.Sink.view shelf.old) (S.Sink.view shelf.new) }
 {
-    let texts = read_texts(page.alloc(), shelf, names);
-    let Some(texts) = page.unless_short(texts) else {
-        return;
-    };
-    say_texts(page, names, &texts, ended);
-    let inst = if ended == Status::BadTree {
-        turned_instance(page.alloc(), &texts, names.turn)
-    } else {
-        Ok(None)
-    };
-    if let Some(inst) = page.unless_short(inst) {
-        say_others(page, shelf, names, inst, ended)
+    match &ended.cause {
+        Some(Cause::Refused(why)) => say_refusal(page, shelf, &names.read, *why),
+        _ => say_served(page, shelf, names, ended),
     }
 }
 
 /// Says what there is to say of a run with these words.
-fn say_all<S: Shelf>(page: &mut Page, words: &[String], ended: Status, shelf: &mut S)
+fn say_all<S: Shelf>(page: &mut Page, words: &[String], ended: &Ended, shelf: &mut S)
     ensures { LeavesFiles (S.Sink.view shelf.old) (S.Sink.view shelf.new) }
 {
-    if ended == Status::Usage {
-        return say_usage(page, words);
+    match ended.status {
+        Status::Usage => return say_usage(page, words),
+        Status::OutOfMemory => {
+            return page
+                .line()
+                .text("the system gave no more memory; no file was changed")
+                .end();
+        }
+        Status::WriteFault => return,
+        _ => {}
     }
     let request = request_of(page.alloc(), words);
-    let Some(request) = page.unless_short(request) else {
-        return;
-    };
-    let names = names_of(&request);
-    say_files(page, shelf, &names, ended)
+    if let Some(request) = page.unless_short(request) {
+        if let Some(names) = names_of(&request) {
+            say_files(page, shelf, &names, ended)
+        }
+    }
 }
 
-/// Says on `err`, for people, what is to be mended after a run with these words that ended so, and what in its
-/// files is worth a note. It reads the files again and changes none. Where it can't read one again, where they have
-/// changed since, or where memory is wanting, it says nothing.
+/// Says on `err`, for people, what is to be mended after a run with these words that came to this, and what in its
+/// files is worth a note. It reads files again for what they hold, and changes none. Where it can't read one again,
+/// where they have changed since, or where memory is wanting, it says nothing.
 pub fn explain<S: Shelf, K: Sink>(
     alloc: Global,
     words: &[String],
-    ended: Status,
+    ended: &Ended,
     shelf: &mut S,
     err: &mut K,
 )

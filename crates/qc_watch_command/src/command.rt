@@ -9,7 +9,7 @@ use crate::answer::{Near, Watching};
 use crate::report::report;
 use qc_io::{Shelf, Sink};
 use qc_num::Text;
-use qc_run::{Inputs, Status, Stop, read_watched, report_stop};
+use qc_run::{Ended, Inputs, Stop, read_watched, report_stop};
 use qc_ship::Ship;
 use qc_watch::{Breach, first_breach};
 use std::alloc::Global;
@@ -58,10 +58,10 @@ pub fn watch<S: Shelf, K: Sink>(
     inputs: &Inputs<'_>,
     shelf: &mut S,
     out: &mut K,
-) -> Status
+) -> Ended
     requires { IsSome (names_of inputs.now).log }
     ensures account { IsReaderRun watch_reader (names_of inputs.now)
-        (S.Sink.view shelf.old) (S.Sink.view shelf.new) (K.Sink.view out.old) (K.Sink.view out.new) result }
+        (S.Sink.view shelf.old) (S.Sink.view shelf.new) (K.Sink.view out.old) (K.Sink.view out.new) result.status }
     ensures reads_never_fall { (S.Sink.view shelf.old).read_faults ≤ (S.Sink.view shelf.new).read_faults }
 {
     match judge(alloc, inputs, shelf) {

@@ -6,7 +6,7 @@ ghost use Rattle.qc_watch_command.specs.Texts.{near_text, safe_text, watching_st
 use crate::answer::{Near, Watching};
 use qc_io::Sink;
 use qc_num::Text;
-use qc_run::{Status, report_text};
+use qc_run::{Ended, Status, report_text};
 
 /// What is told of reports at which all cranes kept their margin.
 fn safe_text(count: u32) -> Text<64>
@@ -33,9 +33,9 @@ fn near_text(told: &Near) -> Text<64>
 }
 
 /// Prints what a log came to.
-pub(crate) fn report<K: Sink>(answer: Watching, out: &mut K) -> Status
+pub(crate) fn report<K: Sink>(answer: Watching, out: &mut K) -> Ended
     ensures { Reports (Prints (watching_text answer)) (PrintsPart (watching_text answer)) (watching_status answer)
-        (K.view out.old) (K.view out.new) result }
+        (K.view out.old) (K.view out.new) result.status }
 {
     match answer {
         Watching::Safe(count) => report_text(Status::Done, safe_text(count).as_bytes(), out),

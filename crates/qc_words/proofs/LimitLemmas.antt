@@ -1,5 +1,5 @@
 -- What is asked for keeps the limits, whatever the words are.
-use Rattle.std.proofs.Common.{ℕ, ◌≤◌, ◌&&◌, ◌||◌, IfSome, bytes_eq, lit≤, nat_le, cond, List, [], ◌∷◌, Option, None, Some, codes, arith, option_and_then, option_map, unwrap_or}
+use Rattle.std.proofs.Common.{refl, ℕ, ◌≤◌, ◌&&◌, ◌||◌, IfSome, IsSome, bytes_eq, lit≤, nat_le, cond, List, [], ◌∷◌, Option, None, Some, codes, arith, option_and_then, option_map, unwrap_or}
 use Rattle.std.proofs.lemmas.Bool.{cond_both}
 use Rattle.std.proofs.lemmas.Bool.Decides.{nat_tests}
 use Rattle.std.specs.Option.{option_map_or}
@@ -9,11 +9,13 @@ use Rattle.qc_model.specs.Numbers.{most_branchings, most_cranes, most_hatches}
 use Rattle.qc_model.specs.declared.turn.Turn.{Turn}
 use Rattle.qc_model.specs.declared.turn.Turn.TheVariants.{OneWay, Free}
 use Rattle.qc_num.specs.Digits.{number_in}
+use Rattle.qc_run.specs.Inputs.{Names, Planning}
+use Rattle.qc_words.specs.declared.asked.Reader.TheVariants as reader
 use Rattle.qc_words.specs.declared.commands.CommandName.{CommandName}
 use Rattle.qc_words.specs.declared.commands.CommandName.TheVariants as name
-use Rattle.qc_words.specs.Asked.{Asked, KeepsLimits, are_different, help, is_own, most_number, plan, usage, version}
+use Rattle.qc_words.specs.Asked.{Asked, KeepsLimits, are_different, given, help, most_number, plan, read, usage, version}
 use Rattle.qc_words.specs.Commands.{command_name, command_of, named, read_by}
-use Rattle.qc_words.specs.Words.{about, asked_by, asked_in, asked_of, is_help, make_of, nodes_in, number_between, plan_in, plan_of, value_of}
+use Rattle.qc_words.specs.Words.{about, asked_by, asked_in, asked_of, check_in, is_help, listed, make_of, nodes_in, number_between, plan_in, plan_of, value_of}
 
 abbrev IsBetween : ℕ → ℕ → Option ℕ → Type 0
 IsBetween least most number = IfSome number (λ n. (least ≤ n) × (n ≤ most))
@@ -30,11 +32,9 @@ nodes_kept : (text : Option Text) → IsBetween 0 most_branchings (nodes_in text
 nodes_kept None = (lit≤ tt, lit≤ tt)
 nodes_kept (Some text) = number_kept 0 most_branchings text
 
-plan_kept : (turn : Turn) (s w p t : Text) (nodes : Option ℕ) (own : Option Text) → IsBetween 0 most_branchings nodes
-    → KeepsLimits (plan_of turn s w p t nodes own)
-plan_kept turn s w p t None own few = tt
-plan_kept turn s w p t (Some n) own few =
-    cond_both (are_different s w p t && is_own own s w p t) (plan turn s w p t n own) usage KeepsLimits (λ yes. (yes, few.1)) (λ _. tt)
+plan_kept : (asked : Planning) → IsSome asked.inputs.stow → asked.nodes ≤ most_branchings → KeepsLimits (plan_of asked)
+plan_kept asked stow few =
+    cond_both (are_different (given asked)) (plan asked) usage KeepsLimits (λ yes. (stow, yes, few)) (λ _. tt)
 
 make_kept : (number hatches cranes : Option ℕ) → IsBetween 0 most_number number → IsBetween 1 most_hatches hatches → IsBetween 1 most_cranes cranes
     → KeepsLimits (make_of number hatches cranes)
@@ -44,22 +44,40 @@ make_kept (Some k) (Some h) None n few fewer = tt
 make_kept (Some k) (Some h) (Some c) n few fewer = (n.1, few.0, few.1, fewer.0, fewer.1)
 
 search_kept : (turn : Turn) (rows : List Row) → KeepsLimits (plan_in turn rows)
-search_kept turn rows =
-    plan_kept turn (value_of (codes "ship") rows) (value_of (codes "stow") rows) (value_of (codes "plan") rows) (value_of (codes "tree") rows) _ _
-    (nodes_kept (first_of (codes "nodes") rows))
+search_kept turn rows = by (nodes_in (first_of (codes "nodes") rows)) (nodes_kept (first_of (codes "nodes") rows))
+  where
+    asked : ℕ → Planning
+    asked nodes = record {
+      inputs = record (listed rows) { own = first_of (codes "from") rows; turn = turn };
+      plan = value_of (codes "plan") rows;
+      tree = value_of (codes "tree") rows;
+      nodes = nodes;
+    }
+
+    by : (nodes : Option ℕ) → IsBetween 0 most_branchings nodes
+        → KeepsLimits (option_map_or (λ n. plan_of (asked n)) nodes usage)
+    by None few = tt
+    by (Some n) few = plan_kept (asked n) refl few.1
+
+check_kept : (turn : Turn) (rows : List Row) → KeepsLimits (check_in turn rows)
+check_kept turn rows =
+    let word = value_of (codes "plan") rows in
+    let names : Names = record (listed rows) { tree = Some (value_of (codes "tree") rows); turn = turn } in
+    cond_both (bytes_eq word (codes "-")) (read reader.CheckTree names) (read reader.Check (record names { plan = Some word }))
+    KeepsLimits (λ _. (refl, refl)) (λ _. (refl, refl, refl))
 
 command_kept : (n : CommandName) (rows : List Row) → KeepsLimits (asked_in n rows)
 command_kept name.Plan rows = search_kept OneWay rows
 command_kept name.Free rows = search_kept Free rows
-command_kept name.Check rows = tt
-command_kept name.FreeCheck rows = tt
-command_kept name.Tasks rows = tt
-command_kept name.Show rows = tt
-command_kept name.Sheet rows = tt
-command_kept name.Watch rows = tt
-command_kept name.Dispatch rows = tt
-command_kept name.Picture rows = tt
-command_kept name.Report rows = tt
+command_kept name.Check rows = check_kept OneWay rows
+command_kept name.FreeCheck rows = check_kept Free rows
+command_kept name.Tasks rows = refl
+command_kept name.Show rows = (refl, refl)
+command_kept name.Sheet rows = (refl, refl)
+command_kept name.Watch rows = refl
+command_kept name.Dispatch rows = (refl, refl, refl)
+command_kept name.Picture rows = (refl, refl)
+command_kept name.Report rows = (refl, refl)
 command_kept name.Make rows = make_kept _ _ _ (number_kept 0 most_number (value_of (codes "number") rows))
     (number_kept 1 most_hatches (value_of (codes "hatches") rows)) (number_kept 1 most_cranes (value_of (codes "cranes") rows))
 
@@ -72,7 +90,7 @@ help_kept : (name : Option CommandName) → IfSome (option_map (λ of. help (Som
 help_kept None = tt
 help_kept (Some of) = tt
 
-about_kept : (words : List Text) → IfSome (about words) KeepsLimits
+pub about_kept : (words : List Text) → IfSome (about words) KeepsLimits
 about_kept [] = tt
 about_kept (word ∷ []) =
     cond_both (is_help word || bytes_eq word (codes "help")) (Some (help None)) _ (λ o. IfSome o KeepsLimits) (λ _. tt)

@@ -8,7 +8,9 @@ use Rattle.qc_model.specs.Numbers.{most_branchings, most_cranes, most_hatches}
 use Rattle.qc_model.specs.declared.turn.Turn.{Turn}
 use Rattle.qc_model.specs.declared.turn.Turn.TheVariants.{OneWay, Free}
 use Rattle.qc_num.specs.Digits.{number_in}
-use Rattle.qc_words.specs.Asked.{Asked, plan, check, tasks, show, make, sheet, watch, dispatch, picture, report, usage, are_different, is_own, most_number, help, version}
+use Rattle.qc_run.specs.Inputs.{Names, Planning, no_names}
+use Rattle.qc_words.specs.Asked.{Asked, read, plan, make, help, version, usage, are_different, given, most_number}
+use Rattle.qc_words.specs.declared.asked.Reader.TheVariants as reader
 use Rattle.qc_words.specs.Commands.{command_of, named, read_by, command_name}
 use Rattle.qc_words.specs.declared.commands.CommandName.{CommandName}
 use Rattle.qc_words.specs.declared.commands.CommandName.TheVariants as name
@@ -60,31 +62,55 @@ abbrev pub nodes_in : Option (List ℕ) → Option ℕ
 nodes_in None = Some usual_branchings
 nodes_in (Some text) = number_between 0 most_branchings text
 
--- a plan with so many branchings, where its names are different
-abbrev pub plan_of : Turn → (ship stow plan tree : List ℕ) → Option ℕ → Option (List ℕ) → Asked
-plan_of turn s w p t None own = usage
-plan_of turn s w p t (Some n) own =
-    if are_different s w p t && is_own own s w p t then plan turn s w p t n own else usage
-
--- the plan that `check` or `freecheck` is asked about: none for `-`
-abbrev pub plan_name : List ℕ → Option (List ℕ)
-plan_name word = if bytes_eq word (codes "-") then None else Some word
-
 -- what is made by three numbers that are in range
 abbrev pub make_of : (number hatches cranes : Option ℕ) → Asked
 make_of (Some n) (Some h) (Some c) = make n h c
 make_of _ _ _ = usage
 
+-- the files of a command that reads a ship file and a list
+abbrev pub listed : List Row → Names
+listed rows =
+    record no_names { ship = Some (value_of (codes "ship") rows); stow = Some (value_of (codes "stow") rows) }
+
+-- these, and a plan
+abbrev pub planned : List Row → Names
+planned rows = record (listed rows) { plan = Some (value_of (codes "plan") rows) }
+
+-- these, and a log that a plan is followed by
+abbrev pub followed : List Row → Names
+followed rows = record (planned rows) { log = Some (value_of (codes "log") rows) }
+
+-- a ship file and a log of reported places
+abbrev pub watched : List Row → Names
+watched rows =
+    record no_names { ship = Some (value_of (codes "ship") rows); log = Some (value_of (codes "log") rows) }
+
+-- a check of the tree alone where `-` is named, else of a plan by the tree
+abbrev pub check_of : Names → List ℕ → Asked
+check_of names word =
+    if bytes_eq word (codes "-") then read reader.CheckTree names
+    else read reader.Check (record names { plan = Some word })
+
 -- a check by schedules of this turn
 abbrev pub check_in : Turn → List Row → Asked
-check_in turn rows = check turn (value_of (codes "ship") rows) (value_of (codes "stow") rows)
-    (plan_name (value_of (codes "plan") rows)) (value_of (codes "tree") rows)
+check_in turn rows =
+    check_of (record (listed rows) { tree = Some (value_of (codes "tree") rows); turn = turn })
+    (value_of (codes "plan") rows)
+
+-- a plan, where its names are different
+abbrev pub plan_of : Planning → Asked
+plan_of asked = if are_different (given asked) then plan asked else usage
 
 -- a plan by schedules of this turn
 abbrev pub plan_in : Turn → List Row → Asked
-plan_in turn rows =
-    plan_of turn (value_of (codes "ship") rows) (value_of (codes "stow") rows) (value_of (codes "plan") rows)
-    (value_of (codes "tree") rows) (nodes_in (first_of (codes "nodes") rows)) (first_of (codes "from") rows)
+plan_in turn rows = option_map_or
+    (λ nodes. plan_of (record {
+      inputs = record (listed rows) { own = first_of (codes "from") rows; turn = turn };
+      plan = value_of (codes "plan") rows;
+      tree = value_of (codes "tree") rows;
+      nodes = nodes;
+    }))
+    (nodes_in (first_of (codes "nodes") rows)) usage
 
 -- what a command asks for by the values that were read
 abbrev pub asked_in : CommandName → List Row → Asked
@@ -92,28 +118,17 @@ asked_in name.Plan rows = plan_in OneWay rows
 asked_in name.Check rows = check_in OneWay rows
 asked_in name.Free rows = plan_in Free rows
 asked_in name.FreeCheck rows = check_in Free rows
-asked_in name.Tasks rows =
-    tasks (value_of (codes "ship") rows) (value_of (codes "stow") rows)
-asked_in name.Show rows =
-    show (value_of (codes "ship") rows) (value_of (codes "stow") rows)
-    (value_of (codes "plan") rows)
 asked_in name.Make rows = make_of
     (number_between 0 most_number (value_of (codes "number") rows))
     (number_between 1 most_hatches (value_of (codes "hatches") rows))
     (number_between 1 most_cranes (value_of (codes "cranes") rows))
-asked_in name.Sheet rows =
-    sheet (value_of (codes "ship") rows) (value_of (codes "stow") rows)
-    (value_of (codes "plan") rows)
-asked_in name.Watch rows = watch (value_of (codes "ship") rows) (value_of (codes "log") rows)
-asked_in name.Dispatch rows =
-    dispatch (value_of (codes "ship") rows) (value_of (codes "stow") rows)
-    (value_of (codes "plan") rows) (value_of (codes "log") rows)
-asked_in name.Picture rows =
-    picture (value_of (codes "ship") rows) (value_of (codes "stow") rows)
-    (value_of (codes "plan") rows)
-asked_in name.Report rows =
-    report (value_of (codes "ship") rows) (value_of (codes "stow") rows)
-    (value_of (codes "plan") rows)
+asked_in name.Tasks rows = read reader.Tasks (listed rows)
+asked_in name.Show rows = read reader.Show (planned rows)
+asked_in name.Sheet rows = read reader.Sheet (planned rows)
+asked_in name.Watch rows = read reader.Watch (watched rows)
+asked_in name.Dispatch rows = read reader.Dispatch (followed rows)
+asked_in name.Picture rows = read reader.Picture (planned rows)
+asked_in name.Report rows = read reader.Report (planned rows)
 
 -- what words ask of a command: Usage where no command begins them, where `clap` refuses them, where a
 -- number isn't one in plain decimal and in range, and where a plan's names aren't different

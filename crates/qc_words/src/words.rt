@@ -3,18 +3,20 @@
 ghost use Rattle.std.specs.Prelude.{◌≡◌, IfOk, IfSome, IsOk, IsTrue, option_map};
 ghost use Rattle.std.specs.Option.{option_map_or};
 ghost use Rattle.clap.specs.Words.{app_of, found_of, rows_of, first_of, is_simple_and_free};
-ghost use Rattle.qc_words.specs.Asked.{asked_for, usage, KeepsLimits, are_different, is_own};
+ghost use Rattle.qc_run.specs.Inputs.{names_of, planning};
+ghost use Rattle.qc_words.specs.Asked.{asked_for, usage, KeepsLimits, are_different, given, is_same};
 ghost use Rattle.qc_words.specs.Commands.{command_of, named, read_by};
 ghost use Rattle.qc_words.specs.declared.commands.CommandName.TheVariants as name;
-ghost use Rattle.qc_words.specs.Words.{Asks, about, asked_in, check_in, nodes_in, number_between, plan_in, plan_name, plan_of, texts, value_of};
+ghost use Rattle.qc_words.specs.Words.{Asks, about, asked_in, check_in, followed, listed, nodes_in, number_between, plan_in, planned, texts, value_of, watched};
 
 use crate::about::about;
-use crate::asked::{MOST_NUMBER, Request};
+use crate::asked::{MOST_NUMBER, Reader, Request};
 use crate::commands::{CommandName, command_of, named};
 use clap::error::ErrorKind;
 use clap::{ArgMatches, Command};
 use qc_model::{MOST_CRANES, MOST_HATCHES, Turn};
 use qc_num::{OutOfMemory, plain_number};
+use qc_run::{Inputs, PlanAsked};
 use qc_tree::MOST_BRANCHINGS;
 use std::alloc::Global;
 
@@ -84,89 +86,108 @@ fn nodes_in(text: Option<&str>) -> Option<u32>
     }
 }
 
-/// Whether no two of a plan's four names are equal.
-fn are_different(s: &str, w: &str, p: &str, t: &str) -> bool
-    ensures { result ≡ are_different s.now w.now p.now t.now }
+/// The files of a command that reads a ship file and a list.
+fn listed<'a>(matches: &ArgMatches<'a>) -> Inputs<'a>
+    ensures { names_of result ≡ listed (rows_of (found_of matches.now)) }
 {
-    !(s == w || s == p || s == t || w == p || w == t || p == t)
-}
-
-/// Whether the name of the planner's own plan, if there is one, is none of a plan's four names.
-fn is_own(own: Option<&str>, s: &str, w: &str, p: &str, t: &str) -> bool
-    ensures { result ≡ is_own (option_map (λ name. name.now) own.entry) s.now w.now p.now t.now }
-{
-    match own {
-        None => true,
-        Some(own) => !(own == s || own == w || own == p || own == t),
+    Inputs {
+        stow: Some(value_of(matches, "stow")),
+        ..Inputs::of(value_of(matches, "ship"))
     }
 }
 
-/// A plan with so many branchings, where its names are different.
-fn plan_of<'a>(
-    turn: Turn,
-    ship: &'a str,
-    stow: &'a str,
-    plan: &'a str,
-    tree: &'a str,
-    nodes: Option<u32>,
-    own: Option<&'a str>,
-) -> Request<'a>
-    ensures { asked_for result ≡ plan_of turn ship.now stow.now plan.now tree.now nodes
-        (option_map (λ name. name.now) own.entry) }
+/// These, and a plan.
+fn planned<'a>(matches: &ArgMatches<'a>) -> Inputs<'a>
+    ensures { names_of result ≡ planned (rows_of (found_of matches.now)) }
 {
-    match nodes {
-        Some(nodes) => {
-            if are_different(ship, stow, plan, tree) && is_own(own, ship, stow, plan, tree) {
-                Request::Plan {
-                    turn,
-                    ship,
-                    stow,
-                    plan,
-                    tree,
-                    nodes,
-                    own,
-                }
-            } else {
-                Request::Usage
-            }
-        }
-        None => Request::Usage,
+    Inputs {
+        plan: Some(value_of(matches, "plan")),
+        ..listed(matches)
     }
 }
 
-/// The plan that `check` or `freecheck` is asked about: none for `-`.
-fn plan_name(word: &str) -> Option<&str>
-    ensures { option_map (λ name. name.now) result ≡ plan_name word.now }
+/// These, and a log that a plan is followed by.
+fn followed<'a>(matches: &ArgMatches<'a>) -> Inputs<'a>
+    ensures { names_of result ≡ followed (rows_of (found_of matches.now)) }
 {
-    if word == "-" { None } else { Some(word) }
+    Inputs {
+        log: Some(value_of(matches, "log")),
+        ..planned(matches)
+    }
 }
 
-/// A check by schedules of this turn.
+/// A ship file and a log of reported places.
+fn watched<'a>(matches: &ArgMatches<'a>) -> Inputs<'a>
+    ensures { names_of result ≡ watched (rows_of (found_of matches.now)) }
+{
+    Inputs {
+        log: Some(value_of(matches, "log")),
+        ..Inputs::of(value_of(matches, "ship"))
+    }
+}
+
+/// A check by schedules of this turn: of a plan by a tree, or of the tree alone where `-` is named.
 fn check_in<'a>(turn: Turn, matches: &ArgMatches<'a>) -> Request<'a>
     ensures { asked_for result ≡ check_in turn (rows_of (found_of matches.now)) }
 {
-    Request::Check {
+    let files = Inputs {
+        tree: Some(value_of(matches, "tree")),
         turn,
-        ship: value_of(matches, "ship"),
-        stow: value_of(matches, "stow"),
-        plan: plan_name(value_of(matches, "plan")),
-        tree: value_of(matches, "tree"),
+        ..listed(matches)
+    };
+    let plan = value_of(matches, "plan");
+    if plan == "-" {
+        Request::Reads(Reader::CheckTree, files)
+    } else {
+        let plan = Some(plan);
+        Request::Reads(Reader::Check, Inputs { plan, ..files })
     }
 }
 
-/// A plan by schedules of this turn.
+/// Whether two names are there and are equal.
+fn is_same(a: Option<&str>, b: Option<&str>) -> bool
+    ensures { result ≡ is_same (option_map (λ name. name.now) a.entry) (option_map (λ name. name.now) b.entry) }
+{
+    match (a, b) {
+        (Some(a), Some(b)) => a == b,
+        _ => false,
+    }
+}
+
+/// Whether no two of a plan's names are equal.
+fn are_different(asked: &PlanAsked<'_>) -> bool
+    ensures { result ≡ are_different (given (planning asked.now)) }
+{
+    let (ship, stow, own) = (Some(asked.inputs.ship), asked.inputs.stow, asked.inputs.own);
+    let (plan, tree) = (Some(asked.plan), Some(asked.tree));
+    !(is_same(ship, stow) || is_same(ship, own) || is_same(ship, plan) || is_same(ship, tree))
+        && !(is_same(stow, own) || is_same(stow, plan) || is_same(stow, tree))
+        && !(is_same(own, plan) || is_same(own, tree))
+        && !is_same(plan, tree)
+}
+
+/// A plan by schedules of this turn, where its names are different.
 fn plan_in<'a>(turn: Turn, matches: &ArgMatches<'a>) -> Request<'a>
     ensures { asked_for result ≡ plan_in turn (rows_of (found_of matches.now)) }
 {
-    plan_of(
-        turn,
-        value_of(matches, "ship"),
-        value_of(matches, "stow"),
-        value_of(matches, "plan"),
-        value_of(matches, "tree"),
-        nodes_in(text_of(matches, "nodes")),
-        text_of(matches, "from"),
-    )
+    let Some(nodes) = nodes_in(text_of(matches, "nodes")) else {
+        return Request::Usage;
+    };
+    let asked = PlanAsked {
+        inputs: Inputs {
+            own: text_of(matches, "from"),
+            turn,
+            ..listed(matches)
+        },
+        plan: value_of(matches, "plan"),
+        tree: value_of(matches, "tree"),
+        nodes,
+    };
+    if are_different(&asked) {
+        Request::Plans(asked)
+    } else {
+        Request::Usage
+    }
 }
 
 /// What is made by the three numbers, where they are in range.
@@ -191,30 +212,19 @@ fn make_from<'a>(matches: &ArgMatches<'a>) -> Request<'a>
 fn asked_in<'a>(name: CommandName, matches: &ArgMatches<'a>) -> Request<'a>
     ensures { asked_for result ≡ asked_in name (rows_of (found_of matches.now)) }
 {
-    let ship = value_of(matches, "ship");
-    let stow = value_of(matches, "stow");
-    let plan = value_of(matches, "plan");
     match name {
         CommandName::Plan => plan_in(Turn::OneWay, matches),
         CommandName::Check => check_in(Turn::OneWay, matches),
         CommandName::Free => plan_in(Turn::Free, matches),
         CommandName::FreeCheck => check_in(Turn::Free, matches),
-        CommandName::Tasks => Request::Tasks { ship, stow },
-        CommandName::Show => Request::Show { ship, stow, plan },
         CommandName::Make => make_from(matches),
-        CommandName::Sheet => Request::Sheet { ship, stow, plan },
-        CommandName::Watch => Request::Watch {
-            ship,
-            log: value_of(matches, "log"),
-        },
-        CommandName::Dispatch => Request::Dispatch {
-            ship,
-            stow,
-            plan,
-            log: value_of(matches, "log"),
-        },
-        CommandName::Picture => Request::Picture { ship, stow, plan },
-        CommandName::Report => Request::Report { ship, stow, plan },
+        CommandName::Tasks => Request::Reads(Reader::Tasks, listed(matches)),
+        CommandName::Show => Request::Reads(Reader::Show, planned(matches)),
+        CommandName::Sheet => Request::Reads(Reader::Sheet, planned(matches)),
+        CommandName::Watch => Request::Reads(Reader::Watch, watched(matches)),
+        CommandName::Dispatch => Request::Reads(Reader::Dispatch, followed(matches)),
+        CommandName::Picture => Request::Reads(Reader::Picture, planned(matches)),
+        CommandName::Report => Request::Reads(Reader::Report, planned(matches)),
     }
 }
 

@@ -18,7 +18,7 @@ pub returns-in-Err-clause-account : goal.returns-in-Err-clause-account
 returns-in-Err-clause-account g c = record {
   answer = Err c.in-Err.stop;
   serves = tree_checked _ _ _ (Err c.in-Err.stop) c.in-Err.ensures.step c.in-Err.ensures.shown c.in-Err.ensures.none;
-  reports = c.report_stop.ensures;
+  reports = c.report_stop.ensures.report;
 }
 
 pub returns-in-Err-clause-promises : goal.returns-in-Err-clause-promises

@@ -7,4 +7,4 @@ returns-in-Ok-clause-account g c =
 
 pub returns-in-Err-clause-account : goal.returns-in-Err-clause-account
 returns-in-Err-clause-account g c =
-    record { answer = Err c.in-Err.stop; serves = c.in-Err.ensures.serves; reports = c.report_stop.ensures }
+    record { answer = Err c.in-Err.stop; serves = c.in-Err.ensures.serves; reports = c.report_stop.ensures.report }

@@ -9,4 +9,4 @@ returns-in-Ok-clause-account g c =
 
 pub returns-in-Err-clause-account : goal.returns-in-Err-clause-account
 returns-in-Err-clause-account g c =
-    record { answer = Err c.in-Err.stop; serves = step_account instance_due _ _ _ (Err c.in-Err.stop) c.in-Err.ensures.step; reports = c.report_stop.ensures }
+    record { answer = Err c.in-Err.stop; serves = step_account instance_due _ _ _ (Err c.in-Err.stop) c.in-Err.ensures.step; reports = c.report_stop.ensures.report }

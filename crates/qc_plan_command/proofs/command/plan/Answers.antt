@@ -12,7 +12,7 @@ returns-in-Ok-clause-promises g c = plan_promises _ _ _ _ _ _ (returns-in-Ok-cla
 
 pub returns-in-Err-clause-account : goal.returns-in-Err-clause-account
 returns-in-Err-clause-account g c =
-    record { answer = Err c.in-Err.stop; serves = c.in-Err.ensures.serves; reports = c.report_stop.ensures }
+    record { answer = Err c.in-Err.stop; serves = c.in-Err.ensures.serves; reports = c.report_stop.ensures.report }
 
 pub returns-in-Err-clause-promises : goal.returns-in-Err-clause-promises
 unfolding returns-in-Err-clause-account

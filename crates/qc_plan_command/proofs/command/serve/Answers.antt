@@ -1,24 +1,20 @@
 use Rattle.std.proofs.Common.{Ok, Option, sym, subst}
 use Rattle.qc_io.specs.Outside.{Files}
 use Rattle.qc_run.specs.Due.{own_job_due}
-use Rattle.qc_run.specs.Inputs.{Names, names_of}
-use Rattle.qc_run.specs.Steps.{ComesTo, IsStep}
-use Rattle.qc_plan_command.specs.Asked.{planning}
+use Rattle.qc_run.specs.Inputs.{planning}
+use Rattle.qc_run.specs.Steps.{ComesTo}
 use Rattle.qc_plan_command.proofs.StoreLemmas.{over_read, own_broken, seen_allowed}
 use Rattle.qc_plan_command.proofs.command.serve.Goals as goal
 
 pub returns-in-Err-clause-serves : goal.returns-in-Err-clause-serves
 returns-in-Err-clause-serves g c =
     let view = g.S.Sink.view in
-    own_broken (planning c.args.asked.now) (names_of c.inputs.result) (view c.args.shelf.now)
-    (view c.read_own_job.new.shelf) c.in_ok-job.job c.in-Err.broken c.inputs.ensures c.in_ok-job.ensures.step
-    c.in_ok-job.ensures.turn c.in-Err.ensures.broken
+    own_broken (planning c.args.asked.now) (view c.args.shelf.now) (view c.read_own_job.new.shelf) c.in_ok-job.job
+    c.in-Err.broken c.in_ok-job.ensures.step c.in_ok-job.ensures.turn c.in-Err.ensures.broken
 
 pub plan_job-requires-clause-due : goal.plan_job-requires-clause-due
 plan_job-requires-clause-due g c =
-    let view = g.S.Sink.view in
-    let step = subst (λ (n : Names). IsStep (own_job_due n.own) n (view c.args.shelf.now) (view c.read_own_job.new.shelf)
-    (Ok c.in_ok-job.job)) c.inputs.ensures c.in_ok-job.ensures.step in
+    let step = c.in_ok-job.ensures.step in
     let asked = (planning c.args.asked.now).inputs in
     subst (λ (files : Option Files). ComesTo (own_job_due asked.own) asked files (Ok c.in_ok-job.job)) (sym step.files) step.ok.1
 

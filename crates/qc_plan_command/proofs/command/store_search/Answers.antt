@@ -1,6 +1,6 @@
 use Rattle.std.proofs.Common.{◌≡◌, true, false, arith, sym, ◌∙◌, is_err}
 use Rattle.qc_io.proofs.Pieces.{on_err}
-use Rattle.qc_plan_command.specs.Asked.{planning}
+use Rattle.qc_run.specs.Inputs.{planning}
 use Rattle.qc_plan_command.proofs.FoundLemmas.{rereads}
 use Rattle.qc_plan_command.proofs.StoreLemmas.{at_begin, at_end, at_plan, at_tree, by_err, by_ok, writes_told}
 use Rattle.qc_plan_command.proofs.command.store_search.Goals as goal

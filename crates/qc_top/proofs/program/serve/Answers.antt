@@ -5,7 +5,7 @@ pub returns-in-Make-clause-account : goal.returns-in-Make-clause-account
 returns-in-Make-clause-account g c = rw c.in-Make.is (record { untouched = refl; run = c.make.ensures.account })
 
 pub returns-in-Usage-clause-account : goal.returns-in-Usage-clause-account
-returns-in-Usage-clause-account g c = rw c.in-Usage.is (record { untouched = refl; reports = c.report_stop.ensures })
+returns-in-Usage-clause-account g c = rw c.in-Usage.is (record { untouched = refl; reports = c.report_stop.ensures.report })
 
 pub returns-in-Help-clause-account : goal.returns-in-Help-clause-account
 returns-in-Help-clause-account g c = rw c.in-Help.is (record {

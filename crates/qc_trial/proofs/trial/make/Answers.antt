@@ -14,7 +14,7 @@ returns-in-Ok-clause-promises g c = trial_promises _ _ _ _ _ _ (returns-in-Ok-cl
 
 pub returns-in-Err-clause-account : goal.returns-in-Err-clause-account
 returns-in-Err-clause-account g c =
-    record { answer = Err c.in-Err.why; serves = c.in-Err.ensures; reports = c.report_stop.ensures }
+    record { answer = Err c.in-Err.why; serves = c.in-Err.ensures; reports = c.report_stop.ensures.report }
 
 pub returns-in-Err-clause-promises : goal.returns-in-Err-clause-promises
 unfolding returns-in-Err-clause-account
