@@ -2,3 +2,4 @@ pub mod Lent
 pub mod Rows
 pub mod Threads
 pub mod Values
+pub mod Written

@@ -11,9 +11,9 @@ use Rattle.qc_starts.specs.Fields.{AreNested, IsKept, IsStateOf}
 use Rattle.qc_starts.specs.NodeArcs.{IsSound}
 use Rattle.qc_starts.specs.Opened.{AreSized}
 use Rattle.qc_starts.proofs.KeptLemmas.{IsBackNode, nested_less}
-use Rattle.qc_trail.proofs.Written.{written_back_length}
-use Rattle.qc_trail.specs.declared.trail.Note.{Note}
-use Rattle.qc_trail.specs.Trails.{Notes, written_back}
+use Rattle.qc_arena.proofs.Written.{written_back_length}
+use Rattle.qc_arena.specs.declared.trail.Note.{Note}
+use Rattle.qc_arena.specs.Trails.{Notes, written_back}
 
 in_reach_less : (inst : InstanceView) (ds : List Decision) → IsInReach inst ds → IsInReach inst (drop 1 ds)
 in_reach_less inst [] all = all

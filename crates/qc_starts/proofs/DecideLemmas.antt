@@ -19,8 +19,8 @@ use Rattle.qc_starts.specs.Values.{AreRest}
 use Rattle.qc_starts.proofs.KeptLemmas.{home_rest, in_reach_more, nested_more, settled_step}
 use Rattle.qc_starts.proofs.LevelLemmas.{reverse_push}
 use Rattle.qc_starts.proofs.NotingLemmas.{noting_begins}
-use Rattle.qc_trail.specs.declared.trail.Note.{Note}
-use Rattle.qc_trail.specs.Trails.{Notes, written_back}
+use Rattle.qc_arena.specs.declared.trail.Note.{Note}
+use Rattle.qc_arena.specs.Trails.{Notes, written_back}
 
 module _ (f : Inside) (node : Node) (is : IsKept f) (view : node_of f ≡ node) (g : Inside) (mid : Spread)
     (d : Decision)

@@ -27,8 +27,8 @@ use Rattle.qc_starts.proofs.Growth.{assigned_same, forced_grows, head_grows, hea
 use Rattle.qc_starts.proofs.RestLemmas.{backed_of, chain_shows, end_of, has_starts, link, ring_of, rising_of, soon_of, start_of}
 use Rattle.qc_starts.proofs.ArcLemmas.{arc_of}
 use Rattle.qc_starts.proofs.WayLemmas.{IsClosed, no_end}
-use Rattle.qc_trail.specs.declared.trail.Note.{Note}
-use Rattle.qc_trail.specs.Trails.{written_back}
+use Rattle.qc_arena.specs.declared.trail.Note.{Note}
+use Rattle.qc_arena.specs.Trails.{written_back}
 
 -- ---- a raise that came back
 

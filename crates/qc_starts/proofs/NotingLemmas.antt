@@ -5,8 +5,8 @@ use Rattle.std.proofs.lemmas.List.{append-nil, get_or_default, get_or-set_same, 
 use Rattle.std.proofs.lemmas.List.Elements.{All-push}
 use Rattle.std.proofs.lemmas.List.Sums.{count_by-le-length, sum_by-cons, sum_by-set}
 use Rattle.std.proofs.Math.ListN.{get_or-eq_default, length-set}
-use Rattle.qc_trail.specs.declared.trail.Note.{Note}
-use Rattle.qc_trail.specs.Trails.{written_back}
+use Rattle.qc_arena.specs.declared.trail.Note.{Note}
+use Rattle.qc_arena.specs.Trails.{written_back}
 use Rattle.qc_starts.specs.declared.noted.Noted.{Noted}
 use Rattle.qc_starts.specs.Spread.{one_of}
 use Rattle.qc_starts.specs.Noting.{HasNotes, IsNoting, Wrote, marks}

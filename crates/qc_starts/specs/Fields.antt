@@ -11,8 +11,8 @@ use Rattle.qc_starts.specs.NodeArcs.{IsSound, NodeArcs}
 use Rattle.qc_starts.specs.Opened.{AreSized}
 use Rattle.qc_starts.specs.Spread.{IsBackAtRoot}
 use Rattle.qc_starts.specs.Values.{AreRest}
-use Rattle.qc_trail.specs.declared.trail.Note.{Note}
-use Rattle.qc_trail.specs.Trails.{written_back}
+use Rattle.qc_arena.specs.declared.trail.Note.{Note}
+use Rattle.qc_arena.specs.Trails.{written_back}
 
 -- for each decision, newest first, how many notes there were before it: writing back those that follow leaves the
 -- least starts of the node without it

@@ -1,7 +1,7 @@
 -- inner: notes of a decision: what writing them back leaves, and that there is room for them.
 use Rattle.std.specs.Prelude.{◌≡◌, ℕ, ◌+◌, ◌<◌, ◌≤◌, Bool, true, false, List, ◌++◌, All, count_by, length, slice_index, slice_index_or}
-use Rattle.qc_trail.specs.declared.trail.Note.{Note}
-use Rattle.qc_trail.specs.Trails.{written_back}
+use Rattle.qc_arena.specs.declared.trail.Note.{Note}
+use Rattle.qc_arena.specs.Trails.{written_back}
 use Rattle.qc_starts.specs.declared.noted.Noted.{Noted}
 
 -- how many cells are noted

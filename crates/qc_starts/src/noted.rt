@@ -1,13 +1,13 @@
 //! Cells that are written with a note of what they held, once for each decision.
 
 ghost use Rattle.std.specs.Prelude.{◌≡◌, ℕ, ◌+◌, ◌-◌, ◌*◌, ◌<◌, ◌≤◌, ◌^◌, [], All, drop, take, IfOk, List, false, true, length, replicate, slice_index, slice_index_or, slice_set};
-ghost use Rattle.qc_trail.specs.declared.trail.Note.{Note};
-ghost use Rattle.qc_trail.specs.Trails.{written_back};
+ghost use Rattle.qc_arena.specs.declared.trail.Note.{Note};
+ghost use Rattle.qc_arena.specs.Trails.{written_back};
 ghost use Rattle.qc_starts.specs.Noting.{HasNotes, IsNoting, Wrote};
 ghost use Rattle.qc_starts.specs.Values.{code_of, raised, raiser_at, start_at};
 
+use qc_arena::{Cells, Trail};
 use qc_num::{OutOfMemory, Tick};
-use qc_trail::{Cells, Trail};
 use std::alloc::Global;
 
 /// The number that a cell holds for the task that raised another: 0 for none.

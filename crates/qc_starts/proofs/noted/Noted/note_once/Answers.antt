@@ -1,6 +1,6 @@
 use Rattle.std.proofs.Common.{ℕ, [], ◌∷◌, ◌++◌, ap, sym, refl, ◌∙◌, arith, true}
 use Rattle.std.proofs.lemmas.List.{get_or_default}
-use Rattle.qc_trail.specs.Trails.{Notes}
+use Rattle.qc_arena.specs.Trails.{Notes}
 use Rattle.qc_starts.proofs.NotingLemmas.{marks_below, note_fits, note_keeps}
 use Rattle.qc_starts.proofs.noted.Noted.note_once.Goals as goal
 

@@ -1,8 +1,8 @@
 use Rattle.std.proofs.Common.{◌<◌, ◌++◌, length, List, ap, sym, ◌∙◌}
 use Rattle.std.proofs.lemmas.List.Elements.{All-same}
-use Rattle.qc_trail.specs.declared.trail.Note.{Note}
-use Rattle.qc_trail.proofs.Written.{written_back_length, between_holds}
-use Rattle.qc_trail.proofs.trail.Trail.back.Goals as goal
+use Rattle.qc_arena.specs.declared.trail.Note.{Note}
+use Rattle.qc_arena.proofs.Written.{written_back_length, between_holds}
+use Rattle.qc_arena.proofs.trail.Trail.back.Goals as goal
 
 pub set-requires : goal.set-requires
 set-requires c =

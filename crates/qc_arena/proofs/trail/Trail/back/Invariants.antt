@@ -1,7 +1,7 @@
 use Rattle.std.proofs.Common.{◌≡◌, ◌≤◌, ◌++◌, List, vec_len, vec_capacity}
-use Rattle.qc_trail.specs.Trails.{written_back}
-use Rattle.qc_trail.specs.declared.trail.Note.{Note}
-use Rattle.qc_trail.proofs.trail.Trail.back.Given as goal
+use Rattle.qc_arena.specs.Trails.{written_back}
+use Rattle.qc_arena.specs.declared.trail.Note.{Note}
+use Rattle.qc_arena.proofs.trail.Trail.back.Given as goal
 
 -- the notes that were written back are those past the ones that are left
 abbrev pub invariant-loop-self : goal.invariant-loop-self

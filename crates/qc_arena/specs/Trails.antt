@@ -1,6 +1,6 @@
 -- public: notes of what cells held, and what writing them back leaves.
 use Rattle.std.specs.Prelude.{ℕ, List, [], ◌∷◌, slice_set}
-use Rattle.qc_trail.specs.declared.trail.Note.{Note}
+use Rattle.qc_arena.specs.declared.trail.Note.{Note}
 
 -- the notes, oldest first, and the most that there may be
 pub record Notes : Type 0 where

@@ -1,6 +1,6 @@
 ghost use Rattle.std.specs.Prelude.{◌≡◌, ◌<◌, ◌≤◌, [], ◌∷◌, ◌++◌, All, length, take, drop, IfOk};
-ghost use Rattle.qc_trail.specs.Trails.{written_back, Notes};
-ghost use Rattle.qc_trail.specs.Room.{HasRoom};
+ghost use Rattle.qc_arena.specs.Trails.{written_back, Notes};
+ghost use Rattle.qc_arena.specs.Room.{HasRoom};
 
 use crate::Cells;
 use qc_num::OutOfMemory;

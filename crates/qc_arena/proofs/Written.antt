@@ -2,8 +2,8 @@
 use Rattle.std.proofs.Common.{◌≡◌, ℕ, List, [], ◌∷◌, ◌++◌, All, length, refl, ◌∙◌}
 use Rattle.std.proofs.Math.ListN.{length-set}
 use Rattle.std.proofs.lemmas.List.Elements.{All-head, All-tail}
-use Rattle.qc_trail.specs.declared.trail.Note.{Note}
-use Rattle.qc_trail.specs.Trails.{written_back}
+use Rattle.qc_arena.specs.declared.trail.Note.{Note}
+use Rattle.qc_arena.specs.Trails.{written_back}
 
 -- as many cells as before
 pub written_back_length : (notes : List Note) (cells : List ℕ) → length (written_back notes cells) ≡ length cells
