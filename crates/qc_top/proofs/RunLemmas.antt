@@ -7,10 +7,10 @@ use Rattle.std.specs.Cmp.Lexicographic.{nat_list_cmp_total}
 use Rattle.std.specs.FinMap.{get, get-insert, insert}
 use Rattle.qc_gantt.specs.PlanText.{plan_text}
 use Rattle.qc_io.specs.Outside.{Files, View, beside}
-use Rattle.qc_dispatch_command.specs.declared.answer.Dispatching.{Dispatching}
-use Rattle.qc_dispatch_command.specs.declared.answer.Dispatching.TheVariants as dispatching
-use Rattle.qc_dispatch_command.specs.Account.{IsDispatching, StopsDispatch, dispatch_report}
-use Rattle.qc_dispatch_command.specs.Told.{dispatching_status}
+use Rattle.qc_log_commands.specs.declared.dispatching.Dispatching.{Dispatching}
+use Rattle.qc_log_commands.specs.declared.dispatching.Dispatching.TheVariants as dispatching
+use Rattle.qc_log_commands.specs.DispatchAccount.{IsDispatching, StopsDispatch, dispatch_report}
+use Rattle.qc_log_commands.specs.DispatchTold.{dispatching_status}
 use Rattle.qc_judge_commands.specs.declared.answer.Showing.{Showing}
 use Rattle.qc_judge_commands.specs.declared.answer.Showing.TheVariants as showing
 use Rattle.qc_judge_commands.specs.Account.{IsJudged, IsTreeFound, StopsPlan, StopsTree, show_reader, tasks_reader}
@@ -48,10 +48,10 @@ use Rattle.qc_sheet_command.specs.Listed.{listing_status}
 use Rattle.qc_trial.specs.Account.{IsTrialRun, TrialPromises}
 use Rattle.qc_trial.proofs.MadeLemmas.{trial_promises}
 use Rattle.qc_tree.specs.Trees.{tree_text}
-use Rattle.qc_watch_command.specs.declared.answer.Watching.{Watching}
-use Rattle.qc_watch_command.specs.declared.answer.Watching.TheVariants as watching
-use Rattle.qc_watch_command.specs.Account.{watch_reader}
-use Rattle.qc_watch_command.specs.Texts.{watching_status}
+use Rattle.qc_log_commands.specs.declared.watching.Watching.{Watching}
+use Rattle.qc_log_commands.specs.declared.watching.Watching.TheVariants as watching
+use Rattle.qc_log_commands.specs.WatchAccount.{watch_reader}
+use Rattle.qc_log_commands.specs.WatchTexts.{watching_status}
 use Rattle.qc_words.proofs.LimitLemmas.{asked_kept}
 use Rattle.qc_words.specs.Asked.{Asked, KeepsLimits, are_different, is_same, read, plan, make, help, version, usage}
 use Rattle.qc_words.specs.declared.asked.Reader.{Reader}

@@ -1,7 +1,7 @@
 -- public: the account of a run, by what the words ask for.
 use Rattle.std.specs.Prelude.{◌≡◌, ◌⊎◌, ℕ, ◌<◌, List, length, None, Some}
 use Rattle.qc_io.specs.Outside.{View}
-use Rattle.qc_dispatch_command.specs.Account.{IsDispatchRun}
+use Rattle.qc_log_commands.specs.DispatchAccount.{IsDispatchRun}
 use Rattle.qc_judge_commands.specs.Account.{IsPlanCheckRun, IsTreeRun, show_reader, tasks_reader}
 use Rattle.qc_picture_command.specs.Account.{picture_reader, report_reader}
 use Rattle.qc_plan_command.specs.Account.{IsPlanRun}
@@ -16,7 +16,7 @@ use Rattle.qc_run.specs.Reports.{Prints, PrintsPart, Reports}
 use Rattle.qc_run.specs.Texts.{stop_status, stop_text}
 use Rattle.qc_sheet_command.specs.Account.{sheet_reader}
 use Rattle.qc_trial.specs.Account.{IsTrialRun}
-use Rattle.qc_watch_command.specs.Account.{watch_reader}
+use Rattle.qc_log_commands.specs.WatchAccount.{watch_reader}
 use Rattle.qc_words.specs.Asked.{Asked, read, plan, make, help, version, usage}
 use Rattle.qc_words.specs.declared.asked.Reader.{Reader}
 use Rattle.qc_words.specs.declared.asked.Reader.TheVariants as reader

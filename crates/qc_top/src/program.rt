@@ -7,16 +7,15 @@ ghost use Rattle.qc_words.specs.Words.{texts};
 ghost use Rattle.qc_top.specs.Account.{IsReadBy, IsRun, IsRunOf};
 ghost use Rattle.qc_top.specs.Promises.{Promises};
 
-use qc_dispatch_command::dispatch;
 use qc_io::{Shelf, Sink};
 use qc_judge_commands::{check_plan, check_tree, list_tasks, show};
+use qc_log_commands::{dispatch, watch};
 use qc_num::OutOfMemory;
 use qc_picture_command::{Print, print_plan};
 use qc_plan_command::plan;
 use qc_run::{Ended, Inputs, Refusal, Status, Stop, report_stop, report_text};
 use qc_sheet_command::print_sheet;
 use qc_trial::make;
-use qc_watch_command::watch;
 use qc_words::{Reader, Request, help_text, request_of, version_text};
 use std::alloc::Global;
 
