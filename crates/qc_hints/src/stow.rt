@@ -1,8 +1,7 @@
 //! Faults of a stowage list.
 
-use qc_cell::{Cell, CellFault};
 use qc_page::{Page, Sort, Table, are_digits, is_blank, say_fields, say_header, table_of};
-use qc_ship::Ship;
+use qc_ship::{Cell, CellFault, Ship};
 use qc_stow::{StowFault, StowKind};
 
 const HEADER: &str = "id,move,cell,length";

@@ -1,7 +1,7 @@
 -- public: the stowage list that is made from a number.
 use Rattle.std.specs.Prelude.{ℕ, ◌+◌, ◌*◌, ◌/◌, ◌%◌, List, ◌++◌, map, codes, decimal}
 use Rattle.std.specs.List.{flat_map, range_with_len}
-use Rattle.qc_cell.specs.Cells.{cell_text}
+use Rattle.qc_ship.specs.Cells.{cell_text}
 use Rattle.qc_model.specs.Tasks.{phase_rank, phase_text}
 use Rattle.qc_model.specs.declared.task.Phase.{Phase}
 use Rattle.qc_model.specs.declared.task.Phase.TheVariants.{DeckOut, HoldOut, HoldIn, DeckIn}

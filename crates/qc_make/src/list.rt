@@ -5,9 +5,9 @@ ghost use Rattle.qc_make.specs.Draws.{state_after};
 ghost use Rattle.qc_make.specs.MadeList.{hatch_rows, list_text, lowest_tier, made_row, move_of, move_text, row_line, row_lines};
 
 use crate::draws::{drawn, next_state};
-use qc_cell::Cell;
 use qc_model::{MOST_HATCHES, Phase};
 use qc_num::{Bytes, OutOfMemory, Text};
+use qc_ship::Cell;
 use std::alloc::Global;
 
 const PHASES: [Phase; 4] = [Phase::DeckOut, Phase::HoldOut, Phase::HoldIn, Phase::DeckIn];

@@ -2,7 +2,7 @@
 use Rattle.std.proofs.Common.{◌≡◌, ◌⊎◌, ℕ, ◌%◌, ◌<◌, ◌==◌, ◌||◌, Bool, true, false, List, length, refl, sym, inl, inr, ◌∙◌, arith}
 use Rattle.std.specs.List.{list_any}
 use Rattle.std.proofs.lemmas.Bool.{and_parts, eqb-true, ltb-true}
-use Rattle.qc_cell.specs.Cells.{CellView, IsCell, is_on_deck, slots}
+use Rattle.qc_ship.specs.Cells.{CellView, IsCell, is_on_deck, slots}
 use Rattle.qc_model.specs.declared.task.Task.{Task}
 use Rattle.qc_model.specs.Tasks.{phase_rank}
 use Rattle.qc_stow.specs.Moves.{is_discharge, is_load}

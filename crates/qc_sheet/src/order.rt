@@ -1,13 +1,13 @@
 //! The moves of a task, and the cells of moves.
 
 ghost use Rattle.std.specs.Prelude.{◌≡◌, ◌<◌, ◌≤◌, length, IfOk};
-ghost use Rattle.qc_cell.specs.Cells.{IsCell};
+ghost use Rattle.qc_ship.specs.Cells.{IsCell};
 ghost use Rattle.qc_stow.specs.Moves.{most_moves};
 ghost use Rattle.qc_sheet.specs.Order.{feet, height_of, lane, moves_of, row_at};
 
-use qc_cell::Cell;
 use qc_model::Task;
 use qc_num::OutOfMemory;
+use qc_ship::Cell;
 use qc_stow::{Move, Row};
 use qc_tasks::is_move_of;
 use std::alloc::Global;

@@ -4,3 +4,4 @@ pub mod Ship
 pub mod ShipFile
 pub mod ShipValues
 pub mod ShipFields
+pub mod Cells

@@ -1,9 +1,14 @@
-//! The ship file: hatches, cranes and the times of moves.
+//! The ship file: hatches, cranes and the times of moves; and cells of a ship (ISO 9711), where a
+//! container stands.
 //!
-//! `read_ship` gives the ship of a file, or the first fault in the order of the keys.
+//! `read_ship` gives the ship of a file, or the first fault in the order of the keys. `Cell::read`
+//! gives the cell of a text or its first fault, and reads what `write` wrote; `is_deck` tells deck
+//! from hold.
 #![tactic(auto)]
 
+mod cell;
 mod cranes;
+mod digits;
 mod fault;
 mod hatches;
 mod limits;
@@ -12,6 +17,7 @@ mod reader;
 mod ship;
 mod values;
 
+pub use cell::{Cell, CellFault, CellText};
 pub use fault::{Key, ShipError, ShipFault, ShipKind};
 pub use limits::{GREATEST_HATCH, MOST_HATCH_PAIRS, MOST_MARGIN, MOST_MOVE_TICKS};
 pub use reader::read_ship;

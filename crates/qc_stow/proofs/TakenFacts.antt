@@ -4,7 +4,7 @@ use Rattle.std.proofs.lemmas.List.{map-append}
 use Rattle.std.proofs.lemmas.List.Folds.{list_any-append}
 use Rattle.std.specs.List.{list_any}
 use Rattle.std.specs.Str.{bytes_eq}
-use Rattle.qc_cell.specs.Cells.{CellView, overlap, slots}
+use Rattle.qc_ship.specs.Cells.{CellView, overlap, slots}
 use Rattle.qc_stow.specs.Moves.{has_id, is_taken, same_move}
 use Rattle.qc_stow.specs.Taken.{has_taken_cell, has_taken_id, has_taken_slot, ids_of, same_slot, slot_at, slots_of, slots_taken}
 use Rattle.qc_stow.specs.declared.row.Move.{Move}

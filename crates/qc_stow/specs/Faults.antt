@@ -1,6 +1,6 @@
 -- public: the texts of what is wrong with a record.
 use Rattle.std.specs.Prelude.{ℕ, List, codes}
-use Rattle.qc_cell.specs.Cells.{fault_text}
+use Rattle.qc_ship.specs.Cells.{fault_text}
 use Rattle.qc_stow.specs.declared.fault.StowKind.{StowKind}
 use Rattle.qc_stow.specs.declared.fault.StowKind.TheVariants as kind
 

@@ -2,7 +2,7 @@
 use Rattle.std.specs.Prelude.{ℕ, List, map, flat_map, Bool, ◌&&◌, ◌==◌}
 use Rattle.std.specs.List.{list_any}
 use Rattle.std.specs.Str.{bytes_eq}
-use Rattle.qc_cell.specs.Cells.{CellView, slots}
+use Rattle.qc_ship.specs.Cells.{CellView, slots}
 use Rattle.qc_stow.specs.Moves.{same_move}
 use Rattle.qc_stow.specs.declared.row.Move.{Move}
 use Rattle.qc_stow.specs.declared.row.Row.{Row}

@@ -3,8 +3,8 @@
 ghost use Rattle.std.specs.Prelude.{◌≡◌, ◌≤◌, length};
 ghost use Rattle.qc_stow.specs.Faults.{kind_text};
 
-use qc_cell::CellFault;
 use qc_num::ReadError;
+use qc_ship::CellFault;
 
 /// What is wrong with a record of a stowage list: the first of these that applies.
 #[derive(Clone, Copy, Debug, PartialEq, Eq)]

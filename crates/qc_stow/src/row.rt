@@ -4,15 +4,15 @@ ghost use Rattle.std.specs.Prelude.{◌≡◌};
 ghost use Rattle.csv.specs.Records.{fields_of};
 ghost use Rattle.qc_stow.specs.Moves.{is_discharge, is_load};
 ghost use Rattle.qc_stow.specs.Rows.{move_in, row_in};
-ghost use Rattle.qc_cell.specs.Cells.{cell_in};
+ghost use Rattle.qc_ship.specs.Cells.{cell_in};
 ghost use Rattle.qc_num.specs.Reading.{with_fault};
 
 use crate::fault::StowKind;
 use crate::fields::length_text;
 use crate::id::Id;
 use csv::ByteRecord;
-use qc_cell::Cell;
 use qc_records::field;
+use qc_ship::Cell;
 
 /// Which way a container goes.
 #[derive(Clone, Copy, PartialEq, Eq, Hash)]

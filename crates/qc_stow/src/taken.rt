@@ -5,8 +5,8 @@ ghost use Rattle.qc_stow.specs.Taken.{has_taken_cell, has_taken_id, has_taken_sl
 
 use crate::row::Move;
 use indexmap::IndexSet;
-use qc_cell::Cell;
 use qc_num::OutOfMemory;
+use qc_ship::Cell;
 use std::alloc::Global;
 use std::marker::Model;
 

@@ -16,7 +16,7 @@ use Rattle.qc_model.specs.declared.task.Phase.TheVariants.{DeckOut, HoldOut, Hol
 use Rattle.qc_model.specs.declared.task.Task.{Task}
 use Rattle.qc_model.specs.Tasks.{phase_rank, task_rank}
 use Rattle.qc_ship.specs.Ship.{ShipView, IsShip, HasTimes, takes, lowest_bay, highest_bay}
-use Rattle.qc_cell.specs.Cells.{is_on_deck}
+use Rattle.qc_ship.specs.Cells.{is_on_deck}
 use Rattle.qc_stow.specs.declared.row.Row.{Row}
 use Rattle.qc_tasks.specs.InstanceOf.{is_move_of, moves_at, phase_with, phases, tasks_at, tasks_of, ticks_in}
 use Rattle.qc_tasks.specs.Restows.{ShareNoMove}

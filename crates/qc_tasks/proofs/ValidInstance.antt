@@ -17,7 +17,7 @@ use Rattle.qc_model.specs.declared.turn.Turn.TheVariants.{OneWay}
 use Rattle.qc_model.specs.Instance.{InstanceView, HasBayLimits, HasPlaceLimits, HasValidTasks, HasValidCranes, HasValidBefore, HasValidApart, IsFrom, IsPath, Valid, no_crane, no_task, pair_of}
 use Rattle.qc_ship.specs.declared.ship.HatchPair.{HatchPair}
 use Rattle.qc_ship.specs.Ship.{ShipView, IsShip, greatest_place}
-use Rattle.qc_cell.specs.Cells.{is_on_deck}
+use Rattle.qc_ship.specs.Cells.{is_on_deck}
 use Rattle.qc_stow.specs.Moves.{is_discharge, is_load}
 use Rattle.qc_stow.specs.Moves.{most_moves}
 use Rattle.qc_stow.specs.declared.row.Move.{Move}

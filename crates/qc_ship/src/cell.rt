@@ -1,7 +1,7 @@
 //! Cells: bay, row and tier.
 
 ghost use Rattle.std.specs.Prelude.{◌≡◌, ◌≢◌, ◌<◌, ◌≤◌, length, ◌%◌, [], ◌∷◌, Ok};
-ghost use Rattle.qc_cell.specs.Cells.{CellView, IsCell, fault_text, cell_in, cell_of, cell_text, is_on_deck, overlap, slots, is_forty};
+ghost use Rattle.qc_ship.specs.Cells.{CellView, IsCell, fault_text, cell_in, cell_of, cell_text, is_on_deck, overlap, slots, is_forty};
 
 use crate::digits::two_digits;
 use qc_num::{Text, are_digits, value_of_digits};

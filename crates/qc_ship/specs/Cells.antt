@@ -3,8 +3,8 @@ use Rattle.std.specs.Prelude.{ℕ, ◌+◌, ◌-◌, ◌/◌, ◌%◌, ◌<◌, 
 use Rattle.std.specs.Char.{is_ascii_digit}
 use Rattle.std.specs.List.{list_all, list_any}
 use Rattle.std.specs.Str.Parse.{digits_value}
-use Rattle.qc_cell.specs.declared.cell.CellFault.{CellFault}
-use Rattle.qc_cell.specs.declared.cell.CellFault.TheVariants.{Length, Digit, BayZero, TierOdd, TierZero}
+use Rattle.qc_ship.specs.declared.cell.CellFault.{CellFault}
+use Rattle.qc_ship.specs.declared.cell.CellFault.TheVariants.{Length, Digit, BayZero, TierOdd, TierZero}
 
 -- a cell by its numbers
 pub record CellView : Type 0 where
