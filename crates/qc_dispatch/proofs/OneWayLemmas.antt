@@ -12,7 +12,7 @@ use Rattle.qc_dispatch.specs.declared.stage.Stage.TheVariants.{Running, Ended}
 use Rattle.qc_dispatch.specs.Course.{Course, IsEnded, IsGranted, MayStart, started}
 use Rattle.qc_dispatch.specs.Events.{finished_event, started_event}
 use Rattle.qc_dispatch.specs.Journal.{Follows, Goes, HasFault, HasFirstFault, IsFaulty, IsFollowed, Journal, TakesAll, TakesLine, TookEnd, WentOn, blank}
-use Rattle.qc_log.specs.Lines.{lines_of}
+use Rattle.qc_lines.specs.Lines.{lines_of}
 use Rattle.qc_dispatch.specs.Log.{report_in}
 use Rattle.qc_model.specs.declared.schedule.Slot.{Slot}
 use Rattle.qc_model.specs.Instance.{InstanceView}

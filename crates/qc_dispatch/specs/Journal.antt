@@ -12,7 +12,7 @@ use Rattle.qc_dispatch.specs.Calls.{opening}
 use Rattle.qc_dispatch.specs.Course.{Course, IsEnded, IsGranted, IsPassed, stage_of}
 use Rattle.qc_dispatch.specs.Events.{finished_event, started_event}
 use Rattle.qc_dispatch.specs.Log.{most_lines, report_in}
-use Rattle.qc_log.specs.Lines.{lines_of}
+use Rattle.qc_lines.specs.Lines.{lines_of}
 use Rattle.qc_model.specs.declared.schedule.Slot.{Slot}
 use Rattle.qc_model.specs.Instance.{InstanceView}
 

@@ -6,7 +6,7 @@ use Rattle.qc_dispatch.specs.declared.fault.DispatchKind.{DispatchKind}
 use Rattle.qc_dispatch.specs.declared.fault.DispatchKind.TheVariants as kind
 use Rattle.qc_dispatch.specs.declared.report.Report.{Report}
 use Rattle.qc_dispatch.specs.declared.report.Report.TheVariants.{Passed, Done}
-use Rattle.qc_log.specs.Lines.{ended, is_space}
+use Rattle.qc_lines.specs.Lines.{ended, is_space}
 use Rattle.qc_model.specs.Instance.{InstanceView}
 use Rattle.qc_model.specs.Tasks.{task_text}
 use Rattle.qc_num.specs.Digits.{number_in}

@@ -1,7 +1,7 @@
 //! Following a log, line by line.
 
 ghost use Rattle.std.specs.Prelude.{◌≡◌, ◌+◌, ◌*◌, ◌<◌, ◌≤◌, IfOk};
-ghost use Rattle.qc_log.specs.Lines.{lines_of};
+ghost use Rattle.qc_lines.specs.Lines.{lines_of};
 ghost use Rattle.qc_model.specs.Rules.{Feasible};
 ghost use Rattle.qc_dispatch.specs.declared.report.Report.TheVariants.{Passed, Done};
 ghost use Rattle.qc_dispatch.specs.Course.{IsQuiet, past_moments};
@@ -15,7 +15,7 @@ use crate::event::{Event, finished, started};
 use crate::fault::{DispatchError, DispatchFault, DispatchKind};
 use crate::grant::NotRunning;
 use crate::report::{Report, report_in};
-use qc_log::next_line;
+use qc_lines::next_line;
 use qc_model::{Instance, Schedule};
 use qc_num::{OutOfMemory, Tick};
 use std::alloc::Global;

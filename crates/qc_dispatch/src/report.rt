@@ -4,12 +4,12 @@ ghost use Rattle.std.specs.Prelude.{◌≡◌, ◌<◌, IfOk, IfSome, length};
 ghost use Rattle.std.specs.List.{list_any};
 ghost use Rattle.qc_model.specs.declared.limits.TheConstants.{MOST_TASKS};
 ghost use Rattle.qc_model.specs.Instance.{InstanceView};
-ghost use Rattle.qc_log.specs.Lines.{is_space};
+ghost use Rattle.qc_lines.specs.Lines.{is_space};
 ghost use Rattle.qc_dispatch.specs.Log.{done_in, passed_in, report_in, report_of, task_named};
 ghost use Rattle.qc_dispatch.specs.Following.{IsShort};
 
 use crate::fault::DispatchKind;
-use qc_log::{line_text, next_word};
+use qc_lines::{line_text, next_word};
 use qc_model::Instance;
 use qc_num::{Tick, plain_number};
 

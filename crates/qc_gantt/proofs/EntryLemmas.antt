@@ -19,7 +19,7 @@ use Rattle.qc_num.proofs.ReadingLemmas.{bind_ok, each-keeps, length-each, same_o
 use Rattle.qc_model.specs.declared.schedule.Slot.{Slot}
 use Rattle.qc_model.specs.Instance.{InstanceView, ticks_of}
 use Rattle.qc_model.specs.Tasks.{task_text}
-use Rattle.qc_records.specs.Records.{field_of}
+use Rattle.qc_lines.specs.Records.{field_of}
 use Rattle.qc_gantt.specs.Entries.{beside, ends_as, entry_after, entry_beside, entry_in, new_to, slot_given}
 use Rattle.qc_gantt.specs.Names.{crane_names, number_of, task_names}
 use Rattle.qc_gantt.specs.Plan.{next_entry, slots_given, slots_of}

@@ -20,8 +20,8 @@ use Rattle.qc_model.specs.declared.schedule.Slot.{Slot}
 use Rattle.qc_model.specs.declared.crane.Crane.{Crane}
 use Rattle.qc_model.specs.Instance.{InstanceView, Valid, crane, no_crane, no_task, task, ticks_of}
 use Rattle.qc_model.specs.Judge.{IsJudgeable}
-use Rattle.qc_records.specs.Records.{records_of}
-use Rattle.qc_records.proofs.WholeReads.{all-of}
+use Rattle.qc_lines.specs.Records.{records_of}
+use Rattle.qc_lines.proofs.WholeReads.{all-of}
 use Rattle.csv.specs.Machine.{next_record}
 use Rattle.csv.specs.Reading.{Reached, default_config, strip_bom}
 use Rattle.csv.specs.declared.parser.State.TheVariants as st
@@ -40,7 +40,7 @@ use Rattle.qc_model.specs.Names.{is_name, is_name_byte}
 use Rattle.qc_model.specs.Tasks.{phase_rank, phase_text, task_rank, task_text}
 use Rattle.qc_gantt.specs.Names.{crane_names, number_of, task_names}
 use Rattle.qc_gantt.specs.PlanText.{plan_line, plan_text}
-use Rattle.qc_records.proofs.PlainRows.{four_fields, none_special}
+use Rattle.qc_lines.proofs.PlainRows.{four_fields, none_special}
 
 digit_plain : (b : ℕ) → is_ascii_digit b ≡ true → needs_byte default_writer b ≡ false
 digit_plain b d = grind (arith, nat_tests, d)

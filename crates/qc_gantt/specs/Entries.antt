@@ -5,7 +5,7 @@ use Rattle.qc_num.specs.Digits.{number_in}
 use Rattle.qc_num.specs.Reading.{◌>>=◌, require}
 use Rattle.qc_model.specs.declared.schedule.Slot.{Slot}
 use Rattle.qc_model.specs.Instance.{InstanceView, ticks_of}
-use Rattle.qc_records.specs.Records.{field_of}
+use Rattle.qc_lines.specs.Records.{field_of}
 use Rattle.qc_gantt.specs.Names.{crane_names, number_of, task_names}
 use Rattle.qc_gantt.specs.declared.entry.Entry.{Entry}
 use Rattle.qc_gantt.specs.declared.fault.PlanKind.{PlanKind}

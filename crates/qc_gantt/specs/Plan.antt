@@ -5,7 +5,7 @@ use Rattle.qc_num.specs.Reading.{◌>>=◌, each, require, with_fault}
 use Rattle.qc_model.specs.declared.schedule.Slot.{Slot}
 use Rattle.qc_model.specs.Instance.{InstanceView}
 use Rattle.qc_model.specs.Rules.{end_of}
-use Rattle.qc_records.specs.Records.{records_of}
+use Rattle.qc_lines.specs.Records.{records_of}
 use Rattle.qc_gantt.specs.Entries.{entry_after, is_header, slot_given}
 use Rattle.qc_gantt.specs.declared.entry.Entry.{Entry}
 use Rattle.qc_gantt.specs.declared.fault.PlanFault.{PlanFault}

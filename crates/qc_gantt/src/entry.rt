@@ -9,9 +9,9 @@ use crate::fault::PlanKind;
 use crate::names::{crane_named, task_named};
 use csv::ByteRecord;
 use indexmap::IndexMap;
+use qc_lines::field;
 use qc_model::{Instance, Slot};
 use qc_num::plain_number;
-use qc_records::field;
 
 // How many digits a start and an end have at most.
 const DIGITS: usize = 12;

@@ -12,9 +12,9 @@ use crate::entry::is_header;
 use crate::fault::{PlanError, PlanFault, PlanKind};
 use crate::slots::{fault, read_slots};
 use csv::ByteRecord;
+use qc_lines::first_records;
 use qc_model::{Instance, MOST_TASKS, Schedule, Slot};
 use qc_num::OutOfMemory;
-use qc_records::first_records;
 use std::alloc::Global;
 
 /// The schedule of these slots, where each task has one.

@@ -5,8 +5,8 @@ use crate::form::{Sort, behind_mark, say_form};
 use crate::page::Page;
 use crate::place::{Place, line_at, line_of};
 use csv::ByteRecord;
+use qc_lines::first_records;
 use qc_num::OutOfMemory;
-use qc_records::first_records;
 use std::alloc::Global;
 
 /// The records of a table, with the text in which they stand.

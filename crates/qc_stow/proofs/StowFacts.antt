@@ -11,7 +11,7 @@ use Rattle.std.specs.Str.{bytes_eq}
 use Rattle.qc_num.specs.Reading.{◌>>=◌, each, require, with_fault}
 use Rattle.qc_num.proofs.ReadingLemmas.{bind_ok, each-keeps, require_ok, same_ok, with_fault_ok}
 use Rattle.qc_ship.specs.Cells.{CellView, cell_in, overlap}
-use Rattle.qc_records.specs.Records.{field_of}
+use Rattle.qc_lines.specs.Records.{field_of}
 use Rattle.qc_ship.specs.Ship.{ShipView, place_of_bay}
 use Rattle.qc_stow.specs.Moves.{AreMoves, has_id, is_taken, most_moves, same_move}
 use Rattle.qc_stow.specs.Fields.{is_id, length_text}

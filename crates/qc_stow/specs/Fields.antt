@@ -2,7 +2,7 @@
 use Rattle.std.specs.Prelude.{ℕ, List, length, Bool, not, ◌&&◌, ◌==◌, ◌%◌, nat_le, if◌then◌else◌, codes}
 use Rattle.std.specs.List.{list_all}
 use Rattle.std.specs.Str.{bytes_eq}
-use Rattle.qc_records.specs.Records.{field_of}
+use Rattle.qc_lines.specs.Records.{field_of}
 
 -- the four names of the columns
 abbrev pub is_header : List (List ℕ) → Bool

@@ -3,7 +3,7 @@ use Rattle.std.specs.Prelude.{ℕ, List, length, ◌==◌, if◌then◌else◌, 
 use Rattle.std.specs.Str.{bytes_eq}
 use Rattle.qc_num.specs.Reading.{◌>>=◌, require, with_fault}
 use Rattle.qc_ship.specs.Cells.{CellView, cell_in}
-use Rattle.qc_records.specs.Records.{field_of}
+use Rattle.qc_lines.specs.Records.{field_of}
 use Rattle.qc_stow.specs.Fields.{is_id, length_text}
 use Rattle.qc_stow.specs.declared.row.Move.{Move}
 use Rattle.qc_stow.specs.declared.row.Move.TheVariants.{Discharge, Load}

@@ -1,7 +1,7 @@
 -- public: a stowage list: the moves that its records write, or the fault of the first faulty record.
 use Rattle.std.specs.Prelude.{◌+◌, ℕ, List, [], ◌∷◌, length, take, not, nat_lt, is_some, Result, Ok, Err}
 use Rattle.qc_num.specs.Reading.{◌>>=◌, each, require, with_fault}
-use Rattle.qc_records.specs.Records.{records_of}
+use Rattle.qc_lines.specs.Records.{records_of}
 use Rattle.qc_ship.specs.Ship.{ShipView, place_of_bay}
 use Rattle.qc_stow.specs.Fields.{is_header}
 use Rattle.qc_stow.specs.Moves.{has_id, is_taken, most_moves}

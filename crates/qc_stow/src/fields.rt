@@ -5,7 +5,7 @@ ghost use Rattle.csv.specs.Records.{fields_of};
 ghost use Rattle.qc_stow.specs.Fields.{is_header, length_text};
 
 use csv::ByteRecord;
-use qc_records::field;
+use qc_lines::field;
 
 /// Whether the record is the header.
 pub(crate) fn is_header(fields: &ByteRecord) -> bool

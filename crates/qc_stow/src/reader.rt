@@ -15,7 +15,7 @@ use crate::moves::{MOST_MOVES, Moves};
 use crate::row::Row;
 use crate::taken::Taken;
 use csv::ByteRecord;
-use qc_records::{field, first_records};
+use qc_lines::{field, first_records};
 use qc_ship::Ship;
 use std::alloc::Global;
 

@@ -11,7 +11,7 @@ use crate::fault::StowKind;
 use crate::fields::length_text;
 use crate::id::Id;
 use csv::ByteRecord;
-use qc_records::field;
+use qc_lines::field;
 use qc_ship::Cell;
 
 /// Which way a container goes.

@@ -14,7 +14,7 @@ use Rattle.qc_num.specs.Digits.{number_in}
 use Rattle.qc_num.specs.Reading.{◌>>=◌, each, require}
 use Rattle.qc_num.proofs.DigitLemmas.{number_some, plain_parts, value_fits}
 use Rattle.qc_num.proofs.ReadingLemmas.{bind_ok, each-keeps, require_ok, same_ok, with_fault_ok}
-use Rattle.qc_log.specs.Lines.{ended, is_space}
+use Rattle.qc_lines.specs.Lines.{ended, is_space}
 use Rattle.std.specs.List.{after_first, before_first}
 use Rattle.qc_model.specs.Instance.{no_crane}
 use Rattle.qc_ship.specs.Ship.{IsShip, ShipView}

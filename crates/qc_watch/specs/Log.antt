@@ -4,7 +4,7 @@ use Rattle.std.specs.List.{after_first, before_first, filter, list_any, range_wi
 use Rattle.std.specs.Str.{bytes_eq}
 use Rattle.qc_num.specs.Digits.{number_in}
 use Rattle.qc_num.specs.Reading.{◌>>=◌, each, require, with_fault}
-use Rattle.qc_log.specs.Lines.{ended, is_space, lines_of}
+use Rattle.qc_lines.specs.Lines.{ended, is_space, lines_of}
 use Rattle.qc_ship.specs.Ship.{ShipView}
 use Rattle.qc_watch.specs.declared.entry.Entry.{Entry}
 use Rattle.qc_watch.specs.declared.fault.WatchFault.{WatchFault}

@@ -8,7 +8,7 @@ ghost use Rattle.qc_watch.specs.Since.{IsEntry};
 
 use crate::fault::WatchKind;
 use crate::report::Report;
-use qc_log::{line_text, next_word};
+use qc_lines::{line_text, next_word};
 use qc_num::{Bay, plain_number};
 use qc_ship::Ship;
 

@@ -4,7 +4,7 @@ ghost use Rattle.std.specs.Prelude.{◌≡◌, ◌+◌, ◌≤◌, [], length, m
 ghost use Rattle.std.specs.List.{range_with_len};
 ghost use Rattle.qc_num.specs.Reading.{IsReading, each};
 ghost use Rattle.qc_num.specs.declared.read_error.ReadError.TheVariants.{Fault};
-ghost use Rattle.qc_log.specs.Lines.{lines_of};
+ghost use Rattle.qc_lines.specs.Lines.{lines_of};
 ghost use Rattle.qc_watch.specs.Log.{next_entry, reports_in, told_of};
 ghost use Rattle.qc_watch.specs.Numbers.{most_lines};
 ghost use Rattle.qc_watch.specs.Since.{IsSince, Takes};
@@ -13,7 +13,7 @@ use crate::entry::{Entry, entry_in};
 use crate::fault::{WatchError, WatchFault, WatchKind};
 use crate::report::Report;
 use crate::reports::Reports;
-use qc_log::next_line;
+use qc_lines::next_line;
 use qc_model::MOST_CRANES;
 use qc_num::{OutOfMemory, Tick};
 use qc_ship::Ship;

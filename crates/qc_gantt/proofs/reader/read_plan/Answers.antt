@@ -1,7 +1,7 @@
 use Rattle.std.proofs.Common.{◌≡◌, ◌∙◌, ◌+◌, List, ap, length, map, rules, subst, take, Result}
 use Rattle.csv.specs.Records.{fields_of}
 use Rattle.qc_model.specs.declared.schedule.Slot.{Slot}
-use Rattle.qc_records.specs.Records.{records_of}
+use Rattle.qc_lines.specs.Records.{records_of}
 use Rattle.qc_gantt.specs.Plan.{plan_of}
 use Rattle.qc_num.specs.Reading.{IsReading}
 use Rattle.qc_gantt.specs.declared.fault.PlanFault.{PlanFault}

@@ -1,6 +1,6 @@
 use Rattle.std.proofs.Common.{◌≡◌, [], length}
 use Rattle.qc_num.specs.Reading.{each}
-use Rattle.qc_log.specs.Lines.{lines_of}
+use Rattle.qc_lines.specs.Lines.{lines_of}
 use Rattle.qc_watch.specs.Log.{next_entry}
 use Rattle.qc_watch.proofs.reader.read_lines.Given as goal
 

@@ -1,6 +1,6 @@
 use Rattle.std.proofs.Common.{◌∙◌, ap, length, List, map}
 use Rattle.std.specs.List.{range_with_len}
-use Rattle.qc_log.specs.Lines.{lines_of}
+use Rattle.qc_lines.specs.Lines.{lines_of}
 use Rattle.qc_model.specs.declared.crane.Crane.{Crane}
 use Rattle.qc_watch.specs.Log.{told_of}
 use Rattle.qc_watch.proofs.LogFacts.{count_lists, entries_keep, length-lists_of, reports_keep}

@@ -1,5 +1,5 @@
 use Rattle.std.proofs.Common.{length}
-use Rattle.qc_log.specs.Lines.{lines_of}
+use Rattle.qc_lines.specs.Lines.{lines_of}
 use Rattle.qc_dispatch.specs.Following.{journal_of}
 use Rattle.qc_dispatch.proofs.LogLemmas.{AreOnWay}
 use Rattle.qc_dispatch.proofs.follow.Followed.take_all.Given as goal

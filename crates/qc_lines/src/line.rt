@@ -1,7 +1,7 @@
 //! The lines of a log.
 
 ghost use Rattle.std.specs.Prelude.{◌≡◌, ◌<◌, ◌∷◌, ◌==◌, length, option_map, position};
-ghost use Rattle.qc_log.specs.Lines.{ended, lines_of};
+ghost use Rattle.qc_lines.specs.Lines.{ended, lines_of};
 
 /// The index of the first such byte.
 pub(crate) fn index_of(text: &[u8], byte: u8) -> Option<usize>

@@ -1,5 +1,5 @@
-use Rattle.qc_log.proofs.LineLemmas.{line_found, line_missing}
-use Rattle.qc_log.proofs.line.next_line.Goals as goal
+use Rattle.qc_lines.proofs.LineLemmas.{line_found, line_missing}
+use Rattle.qc_lines.proofs.line.next_line.Goals as goal
 
 pub returns-in-Some-clause-lines : goal.returns-in-Some-clause-lines
 returns-in-Some-clause-lines c = rw (c.split_at.ensures.front, c.split_at.ensures.back) (line_found c.args.text.now c.in-Some.at c.in-Some.ensures)

@@ -2,7 +2,7 @@
 
 ghost use Rattle.std.specs.Prelude.{◌≡◌};
 ghost use Rattle.std.specs.List.{after_first, before_first};
-ghost use Rattle.qc_log.specs.Lines.{is_space};
+ghost use Rattle.qc_lines.specs.Lines.{is_space};
 
 use crate::line::index_of;
 

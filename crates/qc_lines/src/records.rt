@@ -1,11 +1,9 @@
-//! The records of a file of comma-separated values, as `csv` reads them, in order, and no more of
-//! them than are asked for (`first_records`).
-#![tactic(auto)]
+//! The records of a file of comma-separated values.
 
 ghost use Rattle.std.specs.Prelude.{◌≡◌, IfOk, map, take, true};
 ghost use Rattle.csv.specs.Reading.{error_kind, stops_reader};
 ghost use Rattle.csv.specs.Records.{fields_of};
-ghost use Rattle.qc_records.specs.Records.{field_of, records_of};
+ghost use Rattle.qc_lines.specs.Records.{field_of, records_of};
 
 use csv::{ByteRecord, Error, ErrorKind, ReaderBuilder};
 use qc_num::OutOfMemory;

@@ -6,9 +6,9 @@ use Rattle.csv.specs.Reading.{Reached, error_kind, default_config, strip_bom}
 use Rattle.csv.specs.Records.{fields_of}
 use Rattle.csv.specs.declared.parser.State.TheVariants as st
 use Rattle.csv.proofs.ReadFacts.{rows-end, rows-more}
-use Rattle.qc_records.proofs.WholeReads.{all-of, explained, first-of}
-use Rattle.qc_records.proofs.first_records.Goals as goal
-use Rattle.qc_records.proofs.first_records.Goals.{else-loop-items-test, then-loop-items-test+in-None}
+use Rattle.qc_lines.proofs.WholeReads.{all-of, explained, first-of}
+use Rattle.qc_lines.proofs.records.first_records.Goals as goal
+use Rattle.qc_lines.proofs.records.first_records.Goals.{else-loop-items-test, then-loop-items-test+in-None}
 
 pub loop-items-init : goal.loop-items-init
 unfolding Reached

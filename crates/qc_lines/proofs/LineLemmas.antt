@@ -3,7 +3,7 @@ use Rattle.std.proofs.Common.{◌≡◌, ◌<◌, ◌≤◌, ◌+◌, ◌-◌, �
 use Rattle.std.proofs.lemmas.Bool.{cases_Bool, ltb-true, ltb-false}
 use Rattle.std.proofs.lemmas.List.{drop_all, take_all, take_rest}
 use Rattle.std.specs.List.{after_first, before_first, onto_first, position_or_len}
-use Rattle.qc_log.specs.Lines.{is_feed, lines_of}
+use Rattle.qc_lines.specs.Lines.{is_feed, lines_of}
 
 module _ {X : Type 0} (test : X → Bool) (xs : List X) where
   pub found : (i : ℕ) → Some i ≡ position test xs → (position_or_len test xs ≡ i) × (i < length xs)

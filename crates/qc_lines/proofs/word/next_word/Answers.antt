@@ -1,6 +1,6 @@
-use Rattle.qc_log.specs.Lines.{is_space}
-use Rattle.qc_log.proofs.LineLemmas.{after_found, after_missing, before_found, before_missing}
-use Rattle.qc_log.proofs.word.next_word.Goals as goal
+use Rattle.qc_lines.specs.Lines.{is_space}
+use Rattle.qc_lines.proofs.LineLemmas.{after_found, after_missing, before_found, before_missing}
+use Rattle.qc_lines.proofs.word.next_word.Goals as goal
 
 pub returns-in-Some-clause-word : goal.returns-in-Some-clause-word
 returns-in-Some-clause-word c = before_found is_space c.args.text.now c.in-Some.at c.in-Some.ensures

@@ -3,7 +3,7 @@ use Rattle.csv.specs.Reading.{Reached, Ready, default_config, source_of, strip_b
 use Rattle.csv.specs.Records.{fields_of}
 use Rattle.csv.specs.declared.parser.State.TheVariants as st
 use Rattle.csv.specs.declared.reader.Trim.TheVariants as trim
-use Rattle.qc_records.proofs.first_records.Given as goal
+use Rattle.qc_lines.proofs.records.first_records.Given as goal
 
 abbrev pub invariant-loop-items : goal.invariant-loop-items
 invariant-loop-items l = (l.items.rdr.trim ≡ trim.None) × Ready l.items.rdr × (0 < l.items.left) × (l.items.rdr.config ≡ default_config)

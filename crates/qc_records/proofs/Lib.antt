@@ -1,3 +1,0 @@
-pub mod PlainRows
-pub mod WholeReads
-pub mod FieldFacts
