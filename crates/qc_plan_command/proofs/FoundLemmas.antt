@@ -12,8 +12,8 @@ use Rattle.qc_search.specs.declared.done.Kind.{Kind}
 use Rattle.qc_search.specs.declared.done.Kind.TheVariants as kind
 use Rattle.qc_search.specs.Run.{DoneView, IsTightEnd, best_end, outcome}
 use Rattle.qc_starts.specs.Tight.{IsTight, IsTightForm}
-use Rattle.qc_store.specs.Outcome.{IsFound, IsReread, WasOffered}
-use Rattle.qc_store.proofs.OutcomeLemmas.{of_some, short_ends, tight_allowed}
+use Rattle.qc_search.specs.Outcome.{IsFound, IsReread, WasOffered}
+use Rattle.qc_search.proofs.OutcomeLemmas.{of_some, short_ends, tight_allowed}
 use Rattle.qc_tree.specs.Trees.{NoneEarlier, Tree}
 use Rattle.qc_num.specs.Bounds.{IsAtMost}
 use Rattle.qc_num.proofs.BoundLemmas.{at_most_same, at_most_through}

@@ -22,7 +22,7 @@ use Rattle.qc_run.specs.Reports.{Prints, answer_prints, answer_status}
 use Rattle.qc_run.specs.Told.{EndsBy, IsCutTold, NoneFailed}
 use Rattle.qc_run.proofs.StatusLemmas.{IsOwn, stop_is_not}
 use Rattle.qc_run.proofs.ToldLemmas.{memory_told, never_usage, of_status, refused_told, stop_due, unfailed, whole_of}
-use Rattle.qc_store.proofs.OutcomeLemmas.{of_some}
+use Rattle.qc_search.proofs.OutcomeLemmas.{of_some}
 use Rattle.qc_plan_command.specs.declared.answer.PlanAnswer.{PlanAnswer}
 use Rattle.qc_plan_command.specs.declared.answer.PlanAnswer.TheVariants as answer
 use Rattle.qc_plan_command.specs.Account.{IsLeft, IsOwnBroken, IsPlanRun, IsPlanning, IsStopped, IsWritten}

@@ -10,8 +10,8 @@ use Rattle.qc_model.specs.Instance.{InstanceView, Valid}
 use Rattle.qc_model.specs.OneWay.{IsAllowed, IsAllowedBy}
 use Rattle.qc_search.specs.Run.{DoneView, IsSound, SearchView}
 use Rattle.qc_starts.specs.Tight.{IsSeenSo}
-use Rattle.qc_store.specs.Outcome.{WasOffered}
-use Rattle.qc_store.specs.Stored.{IsTreeLeft, IsTreeStored, with_plan}
+use Rattle.qc_search.specs.Outcome.{WasOffered}
+use Rattle.qc_search.specs.Stored.{IsTreeLeft, IsTreeStored, with_plan}
 use Rattle.qc_run.specs.declared.reading.OwnJob.{OwnJob}
 use Rattle.qc_run.specs.Due.{contents_in, own_job_due}
 use Rattle.qc_run.specs.declared.broken.Broken.{Broken}

@@ -5,8 +5,8 @@ use Rattle.qc_model.specs.declared.schedule.Slot.{Slot}
 use Rattle.qc_model.specs.Instance.{InstanceView, Valid}
 use Rattle.qc_model.specs.OneWay.{IsAllowed}
 use Rattle.qc_search.specs.Run.{DoneView}
-use Rattle.qc_store.specs.Outcome.{IsFound}
-use Rattle.qc_store.specs.Stored.{with_plan, with_tree}
+use Rattle.qc_search.specs.Outcome.{IsFound}
+use Rattle.qc_search.specs.Stored.{with_plan, with_tree}
 use Rattle.qc_tree.specs.Trees.{Tree}
 use Rattle.qc_run.specs.declared.refusal.Stop.{Stop}
 use Rattle.qc_run.specs.declared.status.Status.{Status}

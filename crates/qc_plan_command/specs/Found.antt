@@ -10,7 +10,7 @@ use Rattle.qc_model.specs.Judge.{IsDirection}
 use Rattle.qc_model.specs.Motion.{IsSafe}
 use Rattle.qc_model.specs.Rules.{ends}
 use Rattle.qc_search.specs.Run.{DoneView, IsTightEnd}
-use Rattle.qc_store.specs.Outcome.{IsReread}
+use Rattle.qc_search.specs.Outcome.{IsReread}
 use Rattle.qc_plan_command.specs.declared.answer.Motion.{Motion}
 use Rattle.qc_plan_command.specs.declared.answer.Motion.TheVariants as motion
 use Rattle.qc_plan_command.specs.declared.answer.Planned.{Planned}

@@ -4,8 +4,8 @@ use Rattle.qc_io.specs.Outside.{Files}
 use Rattle.qc_model.specs.declared.schedule.Slot.{Slot}
 use Rattle.qc_model.specs.Instance.{InstanceView}
 use Rattle.qc_search.specs.Run.{DoneView, IsSound, SearchView}
-use Rattle.qc_store.specs.Outcome.{WasOffered}
-use Rattle.qc_store.specs.Stored.{IsTreeLeft, IsTreeStored}
+use Rattle.qc_search.specs.Outcome.{WasOffered}
+use Rattle.qc_search.specs.Stored.{IsTreeLeft, IsTreeStored}
 use Rattle.qc_plan_command.specs.declared.opened.Opened.{Opened}
 use Rattle.qc_plan_command.specs.Ahead.{IsAhead}
 use Rattle.qc_plan_command.specs.Rooms.{IsRoom}

@@ -14,7 +14,7 @@ use Rattle.qc_model.specs.Rules.{Feasible}
 use Rattle.qc_motion.specs.declared.track.Waypoint.{Waypoint}
 use Rattle.qc_search.specs.declared.done.Kind.{Kind}
 use Rattle.qc_search.specs.declared.done.Kind.TheVariants as kind
-use Rattle.qc_store.specs.Words.{kind_word}
+use Rattle.qc_search.specs.Words.{kind_word}
 use Rattle.qc_run.specs.declared.status.Status.{Status}
 use Rattle.qc_run.specs.declared.status.Status.TheVariants as status
 use Rattle.qc_run.specs.Broken.{broken_text}

@@ -5,7 +5,7 @@ use Rattle.qc_model.specs.Instance.{InstanceView}
 use Rattle.qc_model.specs.Judge.{IsJudgeable}
 use Rattle.qc_search.specs.Run.{DoneView}
 use Rattle.qc_starts.specs.Tight.{IsAllowedSo, IsTight}
-use Rattle.qc_store.specs.Outcome.{IsReread}
+use Rattle.qc_search.specs.Outcome.{IsReread}
 use Rattle.qc_tree.specs.Trees.{NoneEarlier}
 use Rattle.qc_plan_command.specs.declared.answer.PlanAnswer.{PlanAnswer}
 use Rattle.qc_plan_command.specs.declared.answer.PlanAnswer.TheVariants as answer

@@ -6,14 +6,13 @@ ghost use Rattle.qc_model.specs.Instance.{with_turn};
 ghost use Rattle.qc_model.specs.Judge.{IsJudgeable};
 ghost use Rattle.qc_model.specs.Numbers.{most_branchings};
 ghost use Rattle.qc_plan_command.specs.Ahead.{IsAhead, IsGoing};
-ghost use Rattle.qc_store.specs.Outcome.{WasOffered};
+ghost use Rattle.qc_search.specs.Outcome.{WasOffered};
 
 use crate::nowhere::Nowhere;
 use crate::way::way_of;
 use qc_model::{Instance, Schedule, Turn, copy, direction_of};
 use qc_num::OutOfMemory;
-use qc_search::Search;
-use qc_store::EFFORT;
+use qc_search::{EFFORT, Search};
 use qc_sweep::{Going, first_plan};
 use std::alloc::Global;
 

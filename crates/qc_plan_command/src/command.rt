@@ -23,8 +23,7 @@ use crate::way::own_way;
 use qc_io::{Shelf, Sink, WriteFault};
 use qc_model::Instance;
 use qc_run::{Ended, OwnJob, PlanAsked, Stop, read_own_job, report_stop};
-use qc_search::{Done, Search};
-use qc_store::{store_best, store_tree};
+use qc_search::{Done, Search, store_best, store_tree};
 use std::alloc::Global;
 
 /// Runs the search and makes the tree's file. Where a schedule is found ahead of it, it is offered that. Whoever waits is

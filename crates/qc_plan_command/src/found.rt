@@ -3,7 +3,7 @@ ghost use Rattle.std.specs.Prelude.{IfSome, length};
 ghost use Rattle.qc_model.specs.Judge.{IsJudgeable};
 ghost use Rattle.qc_starts.specs.Tight.{IsAllowedSo, IsTight};
 ghost use Rattle.qc_tree.specs.Trees.{NoneEarlier};
-ghost use Rattle.qc_store.specs.Outcome.{IsReread};
+ghost use Rattle.qc_search.specs.Outcome.{IsReread};
 ghost use Rattle.qc_plan_command.specs.Found.{Tells};
 ghost use Rattle.qc_plan_command.specs.Reports.{CanBeTold};
 ghost use Rattle.qc_plan_command.specs.Rooms.{IsRoom};

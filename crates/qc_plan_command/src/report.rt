@@ -12,8 +12,7 @@ use qc_io::{Sink, WriteFault, put_all};
 use qc_model::{Instance, Schedule};
 use qc_num::{Text, Tick};
 use qc_run::{Ended, Status, direction_text, report_broken, report_text};
-use qc_search::Kind;
-use qc_store::kind_word;
+use qc_search::{Kind, kind_word};
 
 /// The end of a given schedule, or that none was given.
 fn given_text(given: Option<Tick>) -> Text<32>

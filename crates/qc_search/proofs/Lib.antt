@@ -16,3 +16,5 @@ pub mod TreeLemmas
 pub mod RunLemmas
 pub mod PlaceLemmas
 pub mod OutlookLemmas
+pub mod OutcomeLemmas
+pub mod StoreLemmas

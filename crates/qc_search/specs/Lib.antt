@@ -6,3 +6,6 @@ pub mod Lines
 pub mod Progress
 pub mod Places
 pub mod Roots
+pub mod Outcome
+pub mod Stored
+pub mod Words

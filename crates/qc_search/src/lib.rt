@@ -6,12 +6,17 @@
 //! can't be closed. Its best schedule is the tight form of the one that it was offered, or one that a
 //! node met, no later; no schedule ends before its bound. A sink that fails holds a front part of a tree.
 //! Want of memory is answered by `Search::open` alone.
+//!
+//! `store_tree` and `store_best` put a search into files: its tree, and then the plan of the best
+//! schedule that it knows, each whole or the file as it was, and the plan read again as that
+//! schedule. With the word for how a search came out, and how much effort a first plan gets.
 #![tactic(auto)]
 
 mod best;
 mod branch;
 mod choice;
 mod done;
+mod effort;
 mod given;
 mod lines;
 mod node;
@@ -21,7 +26,12 @@ mod place;
 mod progress;
 mod roots;
 mod search;
+mod store;
 mod tree;
+mod word;
 
 pub use done::{Done, Kind};
+pub use effort::EFFORT;
 pub use search::Search;
+pub use store::{store_best, store_tree};
+pub use word::kind_word;

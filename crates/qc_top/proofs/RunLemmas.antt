@@ -25,7 +25,7 @@ use Rattle.qc_picture_command.specs.declared.answer.Printed.TheVariants as print
 use Rattle.qc_picture_command.specs.Planned.{printed_status}
 use Rattle.qc_plan_command.specs.Account.{IsLeft, IsPlanRun, both_files, tree_files}
 use Rattle.qc_plan_command.specs.Promises.{PlanPromises}
-use Rattle.qc_store.specs.Stored.{with_plan}
+use Rattle.qc_search.specs.Stored.{with_plan}
 use Rattle.qc_plan_command.proofs.PlanLemmas.{plan_promises}
 use Rattle.qc_run.specs.declared.refusal.Refusal.TheVariants as refusal
 use Rattle.qc_run.specs.declared.refusal.Stop.{Stop}

@@ -24,9 +24,9 @@ use Rattle.qc_stow.specs.declared.row.Row.{Row}
 use Rattle.qc_stow.specs.Stow.{moves_in}
 use Rattle.qc_tasks.specs.InstanceOf.{instance_of}
 use Rattle.qc_tree.specs.Trees.{Tree, tree_text}
-use Rattle.qc_store.specs.Stored.{with_plan}
-use Rattle.qc_store.specs.Stored.{IsTreeStored as IsSearchStored}
-use Rattle.qc_store.proofs.OutcomeLemmas.{short_ends}
+use Rattle.qc_search.specs.Stored.{with_plan}
+use Rattle.qc_search.specs.Stored.{IsTreeStored as IsSearchStored}
+use Rattle.qc_search.proofs.OutcomeLemmas.{short_ends}
 use Rattle.qc_run.specs.declared.refusal.Refusal.{Refusal}
 use Rattle.qc_run.specs.declared.refusal.Refusal.TheVariants as refusal
 use Rattle.qc_run.specs.declared.refusal.Stop.{Stop}

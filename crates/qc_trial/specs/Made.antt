@@ -22,7 +22,7 @@ use Rattle.qc_tree.specs.Trees.{Tree}
 use Rattle.qc_trial.specs.declared.made.Made.{Made}
 use Rattle.qc_trial.specs.declared.made.Verdict.{Verdict}
 use Rattle.qc_trial.specs.declared.made.Verdict.TheVariants as verdict
-use Rattle.qc_store.specs.Outcome.{IsFound}
+use Rattle.qc_search.specs.Outcome.{IsFound}
 
 -- the ship of the made ship file, and the moves of the made list for it, or the first fault
 abbrev pub ship_due : (hatches cranes : ℕ) → Result ShipView Refusal

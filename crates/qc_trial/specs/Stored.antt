@@ -9,7 +9,7 @@ use Rattle.qc_model.specs.declared.schedule.Slot.{Slot}
 use Rattle.qc_model.specs.Instance.{InstanceView}
 use Rattle.qc_search.specs.Run.{DoneView, SearchView}
 use Rattle.qc_tree.specs.Trees.{IsTree, Tree, tree_text}
-use Rattle.qc_store.specs.Outcome.{IsFound, IsReread, WasOffered}
+use Rattle.qc_search.specs.Outcome.{IsFound, IsReread, WasOffered}
 use Rattle.qc_trial.specs.declared.made.Verdict.{Verdict}
 use Rattle.qc_trial.specs.declared.made.Verdict.TheVariants as verdict
 use Rattle.qc_trial.specs.Made.{made_branchings}

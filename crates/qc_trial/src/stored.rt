@@ -16,8 +16,7 @@ use qc_io::{MemShelf, Shelf, WriteFault};
 use qc_model::{Instance, Schedule, direction_of, ends};
 use qc_num::{Bound, OutOfMemory, Tick};
 use qc_replay::{ReplayError, replay};
-use qc_search::{Done, Search};
-use qc_store::{EFFORT, store_best, store_tree};
+use qc_search::{Done, EFFORT, Search, store_best, store_tree};
 use qc_sweep::first_plan;
 use std::alloc::Global;
 

@@ -4,7 +4,7 @@ ghost use Rattle.qc_trial.specs.Texts.{bound_word, end_word, found_text, made_te
 
 use crate::made::{Made, Verdict};
 use qc_num::{Bound, Text, Tick};
-use qc_store::kind_word;
+use qc_search::kind_word;
 
 fn verdict_word(verdict: Verdict) -> &'static [u8]
     ensures text { result.now ≡ verdict_word verdict }

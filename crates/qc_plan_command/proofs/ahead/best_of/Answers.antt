@@ -1,7 +1,7 @@
 use Rattle.std.proofs.Common.{subst, sym}
 use Rattle.qc_model.specs.Instance.{InstanceView}
 use Rattle.qc_model.specs.Judge.{IsJudgeable}
-use Rattle.qc_store.proofs.OutcomeLemmas.{of_some}
+use Rattle.qc_search.proofs.OutcomeLemmas.{of_some}
 use Rattle.qc_plan_command.proofs.AheadLemmas.{judgeable_back}
 use Rattle.qc_plan_command.proofs.ahead.best_of.Goals as goal
 

@@ -1,6 +1,6 @@
 use Rattle.std.proofs.Common.{◌≡◌, ◌∙◌, subst, sym, rules}
 use Rattle.qc_num.specs.declared.bound.Bound.TheVariants.{Never}
-use Rattle.qc_store.proofs.OutcomeLemmas.{of_some}
+use Rattle.qc_search.proofs.OutcomeLemmas.{of_some}
 use Rattle.qc_starts.specs.Tight.{IsAllowedSo}
 use Rattle.qc_plan_command.proofs.FoundLemmas.{none_best}
 use Rattle.qc_plan_command.proofs.found.answer_of.Goals as goal

@@ -6,13 +6,14 @@ ghost use Rattle.qc_gantt.specs.PlanText.{plan_text};
 ghost use Rattle.qc_io.specs.Writes.{Counts};
 ghost use Rattle.qc_model.specs.Judge.{IsJudgeable};
 ghost use Rattle.qc_search.specs.Run.{IsSound};
-ghost use Rattle.qc_store.specs.Outcome.{IsReread};
-ghost use Rattle.qc_store.specs.Stored.{IsTreeLeft, IsTreeStored, with_plan};
+ghost use Rattle.qc_search.specs.Outcome.{IsReread};
+ghost use Rattle.qc_search.specs.Stored.{IsTreeLeft, IsTreeStored, with_plan};
 
+use crate::done::Done;
+use crate::search::Search;
 use qc_gantt::write_plan;
 use qc_io::{Shelf, WriteFault};
 use qc_model::{Instance, Schedule};
-use qc_search::{Done, Search};
 
 /// Runs the search, and makes the tree's file of what it writes.
 pub fn store_tree<S: Shelf>(search: Search, name: &str, shelf: &mut S) -> Result<Done, WriteFault>

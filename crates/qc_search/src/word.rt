@@ -1,8 +1,8 @@
 //! The word for how a search came out.
 ghost use Rattle.std.specs.Prelude.{◌≡◌, ◌≤◌, length};
-ghost use Rattle.qc_store.specs.Words.{kind_word};
+ghost use Rattle.qc_search.specs.Words.{kind_word};
 
-use qc_search::Kind;
+use crate::done::Kind;
 
 /// The word for how a search came out.
 pub fn kind_word(kind: Kind) -> &'static [u8]

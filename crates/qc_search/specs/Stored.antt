@@ -7,7 +7,7 @@ use Rattle.qc_model.specs.declared.schedule.Slot.{Slot}
 use Rattle.qc_model.specs.Instance.{InstanceView}
 use Rattle.qc_search.specs.Run.{DoneView, SearchView}
 use Rattle.qc_tree.specs.Trees.{Tree, tree_text}
-use Rattle.qc_store.specs.Outcome.{IsOutcome}
+use Rattle.qc_search.specs.Outcome.{IsOutcome}
 
 -- the files with the tree's text in the file of this name
 abbrev pub with_tree : Files → List ℕ → InstanceView → Tree → Files

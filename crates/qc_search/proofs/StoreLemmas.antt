@@ -6,7 +6,7 @@ use Rattle.qc_io.specs.Outside.{Beside, Files, View, begun, beside, finished, wi
 use Rattle.qc_search.specs.Run.{DoneView, IsSound, SearchView}
 use Rattle.qc_search.specs.Run.{IsSearched as Searched}
 use Rattle.qc_tree.specs.Trees.{tree_text}
-use Rattle.qc_store.specs.Stored.{IsTreeLeft, IsTreeStored}
+use Rattle.qc_search.specs.Stored.{IsTreeLeft, IsTreeStored}
 
 -- what stopped didn't come through
 pub not_through : {T E : Type 0} (P : Type 0) (Q : E → Type 0) (r : Result T E) → IsErrAnd r Q → OnOk r P
