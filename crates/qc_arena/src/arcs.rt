@@ -1,7 +1,6 @@
 ghost use Rattle.std.specs.Prelude.{◌≡◌, ◌↔◌, ◌<◌, [], ◌∷◌, ◌++◌, IfOk, IsSome, None, length, replicate, map, vec_len};
 ghost use Rattle.std.specs.Option.{option_to_list};
 ghost use Rattle.qc_arena.specs.Arcs.{leaving, entering, Arcs};
-ghost use Rattle.qc_arena.specs.declared.block.Link.{Link};
 ghost use Rattle.qc_arena.specs.Chains.{arc_of};
 ghost use Rattle.qc_arena.specs.Sound.{IsSound};
 

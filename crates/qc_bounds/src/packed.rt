@@ -1,6 +1,6 @@
 //! When a node ends at the soonest, as packed tasks show it.
 
-ghost use Rattle.std.specs.Prelude.{◌≡◌, ◌+◌, ◌<◌, ◌≤◌, All, IfSome, IsSome, length, map, min};
+ghost use Rattle.std.specs.Prelude.{◌≡◌, ◌<◌, ◌≤◌, All, IfSome, IsSome, length, map, min};
 ghost use Rattle.std.specs.Option.{option_map_or};
 ghost use Rattle.qc_close.specs.Crews.{IsCrewOf};
 ghost use Rattle.qc_model.specs.declared.limits.TheConstants.{MOST_START};

@@ -1,7 +1,6 @@
 //! Makes calls on least starts, and compares what they answer.
 
-ghost use Rattle.std.specs.Prelude.{◌↔◌, ◌<◌, ◌≡◌, IfOk, IsTrue, length};
-ghost use Rattle.qc_model.specs.Nodes.{Conflicts};
+ghost use Rattle.std.specs.Prelude.{◌↔◌, ◌<◌, IfOk, IsTrue, length};
 ghost use Rattle.qc_num.specs.Paths.{HasRoom};
 
 use crate::crew::{crew_by, crew_of};

@@ -1,6 +1,6 @@
 //! What each crane has spent on the tasks that it has.
 
-ghost use Rattle.std.specs.Prelude.{◌≡◌, ◌+◌, ◌*◌, ◌<◌, ◌≤◌, ◌^◌, None, IfSome, length, map, take};
+ghost use Rattle.std.specs.Prelude.{◌≡◌, ◌*◌, ◌<◌, ◌≤◌, ◌^◌, IfSome, length, map, take};
 ghost use Rattle.qc_model.specs.declared.limits.TheConstants.{MOST_TASKS};
 ghost use Rattle.qc_model.specs.Assignments.{AreInRange};
 ghost use Rattle.qc_model.specs.Barred.{barred_frame};

@@ -1,6 +1,6 @@
 //! How many cranes must come to bays that have work left, counted from one end of the ship.
 
-ghost use Rattle.std.specs.Prelude.{◌≡◌, ◌+◌, ◌-◌, ◌*◌, ◌<◌, ◌≤◌, ◌^◌, ℕ, List, ◌∷◌, IfSome, MatchOption, length, slice_index};
+ghost use Rattle.std.specs.Prelude.{◌≡◌, ◌+◌, ◌<◌, ◌≤◌, ◌^◌, ℕ, List, ◌∷◌, IfSome, MatchOption, length, slice_index};
 ghost use Rattle.qc_model.specs.Closed.{along};
 ghost use Rattle.qc_close.specs.Tried.{tried};
 ghost use Rattle.qc_close.specs.Counts.{AreNear, IsWalked, NoneSuffice, bay_behind, leg_from};

@@ -1,6 +1,6 @@
 -- What comes of a log, one event and one line more.
-use Rattle.std.proofs.Common.{◌≡◌, ℕ, ◌+◌, ◌*◌, ◌<◌, ◌≤◌, inl, inr, ◌++◌, List, [], ◌∷◌, length, map, slice_set, ap, sym, subst, ◌∙◌, Ok, append_assoc, arith}
-use Rattle.std.proofs.lemmas.List.{append-nil, length-set}
+use Rattle.std.proofs.Common.{◌≡◌, ℕ, ◌+◌, ◌*◌, ◌<◌, ◌≤◌, inr, ◌++◌, List, [], ◌∷◌, length, map, slice_set, ap, sym, subst, ◌∙◌, Ok, append_assoc, arith}
+use Rattle.std.proofs.lemmas.List.{length-set}
 use Rattle.std.proofs.lemmas.List.Sums.{sum_by-set}
 use Rattle.qc_dispatch.specs.declared.event.Event.{Event}
 use Rattle.qc_dispatch.specs.declared.fault.DispatchFault.{DispatchFault}
@@ -41,12 +41,6 @@ one_start start here to grant next events way granted are = record {
         ∙ ap (λ (c : Course). here.events ++ started_event c.inst grant ∷ map (started_event c.inst) went.grants) granted.after;
   });
 }
-
--- none more
-pub no_start : (start here : Journal) (to : ℕ) (next : Course) → IsOnWay start to here → IsPassed here.course to next
-    → WentOn start to (record { course = next; events = here.events })
-no_start start here to next way passed =
-    way.same (record { course = next; events = here.events }) (record { grants = []; goes = passed; events = sym (append-nil here.events) })
 
 -- no task may start now
 pub quiet_then : (old new : Course) (to : ℕ) → old.clock ≤ to → IsPassed old to new → IsQuiet new
@@ -98,9 +92,3 @@ one_line start all here before line lines rest next e way takes quiet early = re
   same = λ new more. way.same new (subst (λ (ls : List (List ℕ)). TakesAll here before ls new) (sym e) (next, takes, more));
   faults = λ fault has. way.faults fault (subst (λ (ls : List (List ℕ)). HasFirstFault here before ls fault) (sym e) (inr (next, takes, has)));
 }
-
-pub fault_here : (start : Journal) (all : List (List ℕ)) (here : Journal) (before : ℕ) (line : List ℕ) (lines rest : List (List ℕ)) (fault : DispatchFault)
-    → lines ≡ line ∷ rest → AreOnWay start all here before lines → HasFault here before line fault.kind → fault.line ≡ before + 1
-    → HasFirstFault start 0 all fault
-fault_here start all here before line lines rest fault e way has at =
-    way.faults fault (subst (λ (ls : List (List ℕ)). HasFirstFault here before ls fault) (sym e) (inl (has, at)))

@@ -1,5 +1,5 @@
 -- What is kept in the fields, after a decision was added and after one was undone.
-use Rattle.std.proofs.Common.{◌≡◌, ℕ, ◌+◌, ◌-◌, ◌*◌, ◌<◌, ◌≤◌, true, false, None, Some, List, [], ◌∷◌, ◌++◌, length, reverse, slice_set, sym, ap, ◌∙◌, subst, arith, IsFalse}
+use Rattle.std.proofs.Common.{◌≡◌, ℕ, ◌+◌, ◌*◌, ◌<◌, ◌≤◌, true, false, None, Some, List, [], ◌∷◌, ◌++◌, length, reverse, slice_set, sym, ap, ◌∙◌, subst, arith, IsFalse}
 use Rattle.std.proofs.lemmas.List.{length-reverse, reverse-append}
 use Rattle.qc_dist.specs.declared.decisions.Decisions.TheInside.{Inside}
 use Rattle.qc_model.specs.declared.decision.Decision.{Decision}

@@ -11,7 +11,7 @@ use Rattle.qc_model.specs.declared.decision.Decision.TheVariants.{Assign, Order}
 use Rattle.qc_model.specs.declared.pair.Pair.{Pair}
 use Rattle.qc_model.specs.declared.turn.Turn.{Turn}
 use Rattle.qc_model.specs.declared.turn.Turn.TheVariants.{OneWay, Free}
-use Rattle.qc_model.specs.Instance.{InstanceView, IsApart, Valid, pair_of}
+use Rattle.qc_model.specs.Instance.{InstanceView, Valid, pair_of}
 use Rattle.qc_model.specs.Nodes.{Conflicts, Fits, assigned, is_ordered, order_pairs, order_pairs_by}
 use Rattle.qc_model.proofs.NodeLemmas.{conflict_differs, conflict_inside, one_way_apart}
 use Rattle.qc_dist.proofs.Sums.{count_less}

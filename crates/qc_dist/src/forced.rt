@@ -1,6 +1,6 @@
 //! What decisions force: time lags between tasks, and release times.
 
-ghost use Rattle.std.specs.Prelude.{◌≡◌, ◌+◌, ◌<◌, ◌≤◌, ◌↔◌, Some, IfSome, IsTrue, length};
+ghost use Rattle.std.specs.Prelude.{◌≡◌, ◌+◌, ◌<◌, ◌≤◌, ◌↔◌, IfSome, IsTrue, length};
 ghost use Rattle.qc_model.specs.declared.limits.TheConstants.{MOST_DISTANCE, MOST_READY, MOST_WORK};
 ghost use Rattle.qc_model.specs.Nodes.{IsSettled, assigned, clear_ticks, crane_ticks, forced, greater, head, is_sooner, pair_ticks, sooner_ticks};
 ghost use Rattle.qc_dist.specs.Added.{excess};

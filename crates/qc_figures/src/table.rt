@@ -1,6 +1,6 @@
 //! The figures of all cranes as a comma-separated table.
 
-ghost use Rattle.std.specs.Prelude.{◌≡◌, ◌+◌, ◌≤◌, ◌<◌, ◌++◌, codes, decimal, length, OnOk, IfOk};
+ghost use Rattle.std.specs.Prelude.{◌≡◌, ◌+◌, ◌≤◌, ◌++◌, codes, decimal, length, OnOk, IfOk};
 ghost use Rattle.std.specs.List.{flat_map, range_with_len};
 ghost use Rattle.qc_figures.specs.FiguresText.{row_text, row_of, figures_text};
 ghost use Rattle.qc_figures.specs.Views.{IsReady, view_of};

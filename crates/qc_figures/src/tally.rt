@@ -1,7 +1,6 @@
 //! What the tasks of a crane come to.
 
-ghost use Rattle.std.specs.Prelude.{◌≡◌, ◌+◌, ◌<◌, ◌≤◌, max, length};
-ghost use Rattle.qc_figures.specs.declared.figured.Figured.{Figured};
+ghost use Rattle.std.specs.Prelude.{◌≡◌, ◌+◌, ◌<◌, ◌≤◌, length};
 ghost use Rattle.qc_figures.specs.Figures.{does, moves_in};
 ghost use Rattle.qc_figures.specs.Tallies.{IsTally};
 ghost use Rattle.qc_figures.specs.Views.{IsReady, view_of};
@@ -9,7 +8,6 @@ ghost use Rattle.qc_model.specs.declared.limits.TheConstants.{MOST_END, MOST_WOR
 ghost use Rattle.qc_model.specs.Instance.{Valid, task as task_at, ticks_of};
 ghost use Rattle.qc_model.specs.Rules.{end_of};
 ghost use Rattle.qc_stow.specs.Moves.{most_moves};
-ghost use Rattle.qc_tasks.specs.InstanceOf.{is_move_of};
 
 use crate::figured::Figured;
 use qc_model::Task;

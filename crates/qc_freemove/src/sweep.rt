@@ -1,6 +1,6 @@
 //! One crane of a schedule at half ticks.
 
-ghost use Rattle.std.specs.Prelude.{◌≡◌, ◌≢◌, ◌+◌, ◌≤◌, ◌<◌, ◌-ℤ◌, ◌↔◌, length, IsTrue};
+ghost use Rattle.std.specs.Prelude.{◌≡◌, ◌≢◌, ◌≤◌, ◌<◌, ◌-ℤ◌, ◌↔◌, length, IsTrue};
 ghost use Rattle.qc_model.specs.Instance.{IsOnRail, Valid};
 ghost use Rattle.qc_model.specs.Limits.{IsNearRail};
 ghost use Rattle.qc_model.specs.Motion.{bay_ahead, scaled};

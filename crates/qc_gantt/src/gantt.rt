@@ -1,5 +1,5 @@
 // Writing the Gantt text of a schedule.
-ghost use Rattle.std.specs.Prelude.{◌≡◌, ◌≤◌, ◌<◌, ◌+◌, ◌*◌, ◌/◌, ◌++◌, codes, length};
+ghost use Rattle.std.specs.Prelude.{◌≡◌, ◌≤◌, ◌<◌, ◌+◌, ◌++◌, codes, length};
 ghost use Rattle.std.specs.List.{flat_map, range_with_len};
 ghost use Rattle.qc_io.specs.Writes.{Writes};
 ghost use Rattle.qc_model.specs.declared.limits.TheConstants.{MOST_END};

@@ -1,6 +1,5 @@
 //! The command that checks a plan beside a tree.
 ghost use Rattle.std.specs.Prelude.{◌≤◌, Ok, IsSome};
-ghost use Rattle.qc_num.specs.declared.bound.Bound.{Bound};
 ghost use Rattle.qc_model.specs.Judge.{IsJudgeable};
 ghost use Rattle.qc_model.specs.OneWay.{IsAllowed};
 ghost use Rattle.qc_tree.specs.Trees.{NoneEarlier};

@@ -1,5 +1,5 @@
 //! A reader of lines.
-ghost use Rattle.std.specs.Prelude.{◌≡◌, ◌≤◌, ◌<◌, ◌+◌, ◌-◌, ◌==◌, ◌⊎◌, max, ℕ, [], length, take, drop, position, true, false, vec_len, OnOk, OnErr, IfOk, IfSome, IfNone, IsOk, MatchOption};
+ghost use Rattle.std.specs.Prelude.{◌≡◌, ◌≤◌, ◌<◌, ◌-◌, ◌==◌, ◌⊎◌, ℕ, [], length, take, drop, position, true, false, vec_len, OnOk, OnErr, IfOk, IfSome, IfNone, IsOk, MatchOption};
 ghost use Rattle.std.specs.Io.KnownBytes.{prepend_known};
 ghost use Rattle.qc_io.specs.Outside.{Rose, IsMissing, ReadCause, file_at};
 ghost use Rattle.qc_io.specs.Reads.{Reads, ReadsOn};

@@ -14,7 +14,7 @@ use Rattle.qc_model.specs.declared.turn.Turn.TheVariants.{OneWay, Free}
 use Rattle.qc_model.specs.Bays.{bays_between}
 use Rattle.qc_model.specs.Frames.{GoesBy}
 use Rattle.qc_model.specs.Instance.{InstanceView, IsApart, IsBefore, Valid, bay_of, no_task, pair_of, ticks_of}
-use Rattle.qc_model.specs.Nodes.{Agrees, Clash, Conflicts, Fits, IsInReach, IsSettled, Meets, assigned, berth_wait, clear_ticks, crane_ticks, forced, free, greater, greatest, head, head_by, is_before, is_ordered, is_sooner, pair_ticks, reaches, separation, sooner_ticks, upward_ticks}
+use Rattle.qc_model.specs.Nodes.{Agrees, Clash, Conflicts, Fits, IsInReach, IsSettled, Meets, assigned, berth_wait, clear_ticks, crane_ticks, forced, free, greater, greatest, head_by, is_before, is_ordered, is_sooner, pair_ticks, reaches, separation, sooner_ticks, upward_ticks}
 use Rattle.qc_model.specs.OneWay.{GoesUp}
 use Rattle.qc_model.specs.Rules.{Feasible, KeepsReach, crane_of, end_of, last_end, slot_distance, start_of, starts}
 use Rattle.qc_model.specs.Ticks.{berth_distance, distance, lead, task_distance, travel_between}
@@ -22,7 +22,7 @@ use Rattle.qc_model.proofs.Bays.{bays}
 use Rattle.qc_model.proofs.Extremes.{greatest_le, least_le}
 use Rattle.qc_model.proofs.GoesLemmas.{distance_swapped}
 use Rattle.qc_model.proofs.PairOrder.{same_pair}
-use Rattle.qc_model.proofs.TurnLemmas.{by_feasible, goes_by, two_turns}
+use Rattle.qc_model.proofs.TurnLemmas.{by_feasible, two_turns}
 
 -- ---- steps: numbers that may be missing
 
@@ -311,11 +311,6 @@ module _ (inst : InstanceView) (ds : List Decision) (sched : List Slot) (g : Goe
         let kept = subst (IsStep (start_of sched i) (start_of sched j)) e (forced_kept i j low high) in
         omega (arith, start_at sched i, start_at sched j, kept);
   }
-
--- one that goes up goes by either turn
-pub meets_of : (inst : InstanceView) (ds : List Decision) (sched : List Slot) → GoesUp inst sched → Agrees inst ds sched
-    → Meets inst ds (starts sched)
-meets_of inst ds sched g a = meets_by inst ds sched (goes_by inst.turn inst sched g) a
 
 -- and its tasks are in reach
 pub in_reach_of : (inst : InstanceView) (sched : List Slot) → Feasible inst sched

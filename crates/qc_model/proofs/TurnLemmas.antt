@@ -7,7 +7,7 @@ use Rattle.qc_model.specs.declared.turn.Turn.{Turn}
 use Rattle.qc_model.specs.declared.turn.Turn.TheVariants.{OneWay, Free}
 use Rattle.qc_model.specs.Frames.{GoesBy}
 use Rattle.qc_model.specs.Instance.{InstanceView, HasBayLimits, HasPlaceLimits, Valid, with_turn}
-use Rattle.qc_model.specs.OneWay.{GoesDown, GoesOneWay, GoesUp, mirror, mirror_schedule}
+use Rattle.qc_model.specs.OneWay.{GoesUp}
 use Rattle.qc_model.specs.Rules.{Feasible}
 
 pub two_turns : OneWay ≡ Free → ⊥
@@ -65,18 +65,6 @@ goes_up_turn inst turn sched g = record {
   feasible = feasible_turn inst turn sched g.feasible;
   upward = record { one_crane = g.upward.one_crane; two_cranes = g.upward.two_cranes };
 }
-
-pub goes_down_turn : (inst : InstanceView) (turn : Turn) (sched : List Slot) → GoesDown inst sched
-    → GoesDown (with_turn inst turn) sched
-goes_down_turn inst turn sched g = record {
-  crane_range = g.crane_range;
-  mirrored = goes_up_turn (mirror inst) turn (mirror_schedule inst sched) g.mirrored;
-}
-
-pub goes_one_way_turn : (inst : InstanceView) (turn : Turn) (sched : List Slot) → GoesOneWay inst sched
-    → GoesOneWay (with_turn inst turn) sched
-goes_one_way_turn inst turn sched (inl up) = inl (goes_up_turn inst turn sched up)
-goes_one_way_turn inst turn sched (inr down) = inr (goes_down_turn inst turn sched down)
 
 -- what goes up goes by either turn
 pub goes_by : (turn : Turn) (inst : InstanceView) (sched : List Slot) → GoesUp inst sched → GoesBy turn inst sched

@@ -1,6 +1,6 @@
 //! What is left to do in a state.
 
-ghost use Rattle.std.specs.Prelude.{◌<◌, ◌≤◌};
+ghost use Rattle.std.specs.Prelude.{◌≤◌};
 
 use crate::hatch::Hatch;
 use qc_model::{MOST_CRANES, MOST_HATCHES};

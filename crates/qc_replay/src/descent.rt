@@ -1,7 +1,6 @@
 //! The way through a part of a tree, node by node.
 ghost use Rattle.std.specs.Prelude.{◌≡◌, ◌<◌, ◌++◌, ◌∷◌, [], IfOk, None, drop, length, map, true};
 ghost use Rattle.qc_close.specs.Crews.{IsCrewOf};
-ghost use Rattle.qc_model.specs.declared.decision.Decision.{Decision};
 ghost use Rattle.qc_model.specs.declared.decision.Decision.TheVariants.{Assign, Order};
 ghost use Rattle.qc_model.specs.Instance.{Valid};
 ghost use Rattle.qc_model.specs.Work.{crane_numbers};

@@ -1,5 +1,5 @@
 //! What leaves show at a node.
-ghost use Rattle.std.specs.Prelude.{◌≡◌, ◌+◌, ◌*◌, ◌<◌, ◌≤◌, ◌++◌, ◌^◌, ℕ, List, None, All, IfSome, MatchOption, length, option_map, is_some, take};
+ghost use Rattle.std.specs.Prelude.{◌≡◌, ◌+◌, ◌*◌, ◌<◌, ◌≤◌, ◌++◌, ◌^◌, ℕ, List, None, All, IfSome, MatchOption, length, option_map, take};
 ghost use Rattle.qc_close.specs.Crews.{IsCrewOf};
 ghost use Rattle.qc_model.specs.Numbers.{most_distance, most_tasks, most_work};
 ghost use Rattle.qc_model.specs.Leaves.{chain_end, chain_ticks, is_ring, packed_end, work_over};

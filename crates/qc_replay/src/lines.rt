@@ -1,5 +1,5 @@
 //! The lines of a tree's file.
-ghost use Rattle.std.specs.Prelude.{◌≡◌, ◌<◌, ◌^◌, [], IfOk, IfSome, OnOk, Ok, Err, true, length};
+ghost use Rattle.std.specs.Prelude.{◌≡◌, ◌<◌, ◌^◌, [], IfOk, IfSome, OnOk, Err, true, length};
 ghost use Rattle.std.specs.Io.KnownBytes.{prepend_known};
 ghost use Rattle.qc_io.specs.Outside.{IsMissing, ReadCause, file_at};
 ghost use Rattle.qc_num.specs.Paths.{HasRoom};

@@ -1,6 +1,5 @@
 //! The way through a tree, line by line.
-ghost use Rattle.std.specs.Prelude.{◌≡◌, ℕ, List, IfOk, Ok};
-ghost use Rattle.qc_model.specs.declared.turn.Turn.{Turn};
+ghost use Rattle.std.specs.Prelude.{◌≡◌, ℕ, List, IfOk};
 ghost use Rattle.qc_model.specs.Instance.{InstanceView, Valid};
 ghost use Rattle.qc_tree.specs.Lines.{IsLine};
 ghost use Rattle.qc_replay.specs.Read.{with_known, with_line};

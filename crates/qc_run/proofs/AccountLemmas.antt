@@ -2,7 +2,6 @@
 use Rattle.std.proofs.Common.{◌≡◌, ◌⊎◌, Option, None, Some, Result, Ok, Err, refl, sym, subst, inl, ◌∙◌, IfSome}
 use Rattle.qc_io.specs.Outside.{Files, View}
 use Rattle.qc_run.specs.declared.refusal.Refusal.{Refusal}
-use Rattle.qc_run.specs.declared.refusal.Refusal.TheVariants as refusal
 use Rattle.qc_run.specs.declared.refusal.Stop.{Stop}
 use Rattle.qc_run.specs.declared.refusal.Stop.TheVariants as stop
 use Rattle.qc_run.specs.declared.status.Status.{Status}

@@ -1,11 +1,10 @@
 -- Decisions as a schedule has them: what they are open for, and what they settle.
-use Rattle.std.proofs.Common.{◌≡◌, ℕ, ◌+◌, ◌-◌, ◌<◌, inl, inr, Bool, true, false, List, [], ◌∷◌, length, get_or, Contains, ◌⊎◌, Option, None, Some, IfSome, IsSome, refl, ap, subst, ◌∙◌, arith, is_some, nat_le, sym, ◌≤◌, if◌then◌else◌}
-use Rattle.std.proofs.lemmas.Bool.{and_from, cases_eq, cond_both, false_from_ne_true, false≢true, le-leb, leb-true}
+use Rattle.std.proofs.Common.{◌≡◌, ℕ, ◌-◌, ◌<◌, inl, inr, Bool, true, false, List, [], ◌∷◌, length, get_or, Contains, ◌⊎◌, Option, None, Some, IfSome, IsSome, refl, ap, subst, ◌∙◌, arith, is_some, nat_le, sym, ◌≤◌, if◌then◌else◌}
+use Rattle.std.proofs.lemmas.Bool.{and_from, cond_both, false_from_ne_true, false≢true, le-leb, leb-true}
 use Rattle.std.proofs.lemmas.List.{drop_all}
 use Rattle.qc_dist.specs.Node.{IsOpen}
-use Rattle.qc_dist.proofs.Assigned.{assigned_here, assigned_other}
 use Rattle.qc_model.specs.declared.decision.Decision.{Decision}
-use Rattle.qc_model.specs.declared.decision.Decision.TheVariants.{Assign, Order}
+use Rattle.qc_model.specs.declared.decision.Decision.TheVariants.{Order}
 use Rattle.qc_model.specs.declared.pair.Pair.{Pair}
 use Rattle.qc_model.specs.declared.schedule.Slot.{Slot}
 use Rattle.qc_model.specs.declared.turn.Turn.{Turn}
@@ -48,18 +47,6 @@ unstuck inst ds sched goes agrees true none is = none (has_starts_of inst ds sch
 unstuck inst ds sched goes agrees false none is = absurd (false≢true is)
 
 -- ---- tasks that get their cranes one after another
-
-pub still_open : (ds : List Decision) (task crane j : ℕ) → assigned ds j ≡ None → task < j
-    → assigned (Assign task crane ∷ ds) j ≡ None
-still_open ds task crane j none less = assigned_other ds task crane j (λ e. omega (arith, e, less)) ∙ none
-
-pub still_given : (ds : List Decision) (task crane j : ℕ) → (j < task → IsSome (assigned ds j)) → j < task + 1
-    → IsSome (assigned (Assign task crane ∷ ds) j)
-still_given ds task crane j given low = elim (cases_eq task j) [
-  | inl same ↦
-      ap is_some (subst (λ (i : ℕ). assigned (Assign task crane ∷ ds) i ≡ Some crane) same (assigned_here ds task crane))
-  | inr other ↦ ap is_some (assigned_other ds task crane j other) ∙ given (omega arith)
-]
 
 -- ---- pairs that get their order
 

@@ -1,7 +1,7 @@
 //! What a search begins with: nothing, or the tight form of a schedule that it was offered. This has the same
 //! cranes and the same order of apart tasks, or of all tasks that conflict where cranes go as they like, and
 //! the earliest starts with these.
-ghost use Rattle.std.specs.Prelude.{◌≡◌, ◌+◌, ℕ, ◌<◌, ◌≤◌, [], ◌∷◌, None, length, slice_index_or};
+ghost use Rattle.std.specs.Prelude.{◌≡◌, ℕ, ◌<◌, ◌≤◌, [], ◌∷◌, None, length, slice_index_or};
 ghost use Rattle.qc_model.specs.declared.decision.Decision.TheVariants.{Assign};
 ghost use Rattle.qc_model.specs.Frames.{GoesBy};
 ghost use Rattle.qc_model.specs.Instance.{IsApart, Valid, pair_of};

@@ -1,5 +1,5 @@
 //! The search of one part of a tree.
-ghost use Rattle.std.specs.Prelude.{◌≡◌, ◌↔◌, ◌<◌, ◌≤◌, ◌∷◌, [], IfOk, IfSome, IsTrue, length};
+ghost use Rattle.std.specs.Prelude.{◌≡◌, ◌↔◌, ◌≤◌, ◌∷◌, [], IfOk, IfSome, IsTrue, length};
 ghost use Rattle.qc_model.specs.declared.direction.Direction.{Direction};
 ghost use Rattle.qc_model.specs.Numbers.{most_tasks};
 ghost use Rattle.qc_num.specs.Paths.{HasRoom};

@@ -1,5 +1,5 @@
 //! The storing of a search: its tree, and then the plan of the best schedule. Each file is whole or as it was.
-ghost use Rattle.std.specs.Prelude.{◌≡◌, ◌⊎◌, Ok, Some, IfOk, IfSome, OnOk, OnErr};
+ghost use Rattle.std.specs.Prelude.{◌≡◌, ◌⊎◌, Some, IfOk, IfSome, OnOk, OnErr};
 ghost use Rattle.std.specs.FinMap.{insert};
 ghost use Rattle.qc_gantt.specs.Plan.{HasShortEnds};
 ghost use Rattle.qc_gantt.specs.PlanText.{plan_text};

@@ -1,6 +1,6 @@
 //! Where the 40-foot containers of a task stand.
 
-ghost use Rattle.std.specs.Prelude.{◌≡◌, ◌<◌, ◌*◌, ◌+◌, ℕ, ◌&&◌, ◌||◌, ◌==◌, false, length, slice_index_or, All, IfOk};
+ghost use Rattle.std.specs.Prelude.{◌≡◌, ◌<◌, ℕ, ◌&&◌, ◌||◌, ◌==◌, false, length, slice_index_or, All, IfOk};
 ghost use Rattle.qc_ship.specs.Cells.{IsCell, is_forty};
 ghost use Rattle.qc_sheet.specs.Entries.{IsNextMark, Marks, spot};
 ghost use Rattle.qc_sheet.specs.Order.{height_of};

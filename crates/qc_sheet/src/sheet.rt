@@ -5,7 +5,7 @@ ghost use Rattle.qc_model.specs.Instance.{task};
 ghost use Rattle.qc_stow.specs.Moves.{AreMoves};
 ghost use Rattle.qc_tasks.specs.InstanceOf.{instance_of};
 ghost use Rattle.qc_sheet.specs.Entries.{Marks};
-ghost use Rattle.qc_sheet.specs.Order.{AreOrders, IsOrder, moves_of, order_of};
+ghost use Rattle.qc_sheet.specs.Order.{AreOrders, IsOrder, order_of};
 ghost use Rattle.qc_sheet.specs.declared.forties.TheConstants.{SPOTS};
 
 use crate::entry::{Entry, entries_of, sort};

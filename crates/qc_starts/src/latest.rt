@@ -1,6 +1,6 @@
 //! The task that ends last.
 
-ghost use Rattle.std.specs.Prelude.{◌≡◌, ℕ, ◌*◌, ◌<◌, ◌≤◌, None, Some, if◌then◌else◌, length, nat_lt};
+ghost use Rattle.std.specs.Prelude.{◌≡◌, ℕ, ◌*◌, ◌<◌, ◌≤◌, Some, if◌then◌else◌, length, nat_lt};
 ghost use Rattle.qc_model.specs.declared.limits.TheConstants.{MOST_START};
 ghost use Rattle.qc_starts.specs.Found.{IsLast, end_in};
 ghost use Rattle.qc_starts.specs.Values.{start_at};

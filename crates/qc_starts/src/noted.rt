@@ -1,6 +1,6 @@
 //! Cells that are written with a note of what they held, once for each decision.
 
-ghost use Rattle.std.specs.Prelude.{◌≡◌, ℕ, ◌+◌, ◌-◌, ◌*◌, ◌<◌, ◌≤◌, ◌^◌, [], All, drop, take, IfOk, List, false, true, length, replicate, slice_index, slice_index_or, slice_set};
+ghost use Rattle.std.specs.Prelude.{◌≡◌, ℕ, ◌+◌, ◌*◌, ◌<◌, ◌≤◌, ◌^◌, [], All, drop, take, IfOk, List, false, true, length, replicate, slice_index, slice_index_or, slice_set};
 ghost use Rattle.qc_arena.specs.declared.trail.Note.{Note};
 ghost use Rattle.qc_arena.specs.Trails.{written_back};
 ghost use Rattle.qc_starts.specs.Noting.{HasNotes, IsNoting, Wrote};

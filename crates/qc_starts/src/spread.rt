@@ -1,6 +1,6 @@
 //! Starts that are raised behind a task, along the arcs, until none is too low.
 
-ghost use Rattle.std.specs.Prelude.{◌≡◌, ◌+◌, ◌*◌, ◌^◌, ◌<◌, ◌≤◌, ◌⊎◌, ◌&&◌, ◌==◌, true, false, [], if◌then◌else◌, IfOk, MatchOption, Some, length, slice_set, vec_capacity};
+ghost use Rattle.std.specs.Prelude.{◌≡◌, ◌+◌, ◌*◌, ◌^◌, ◌<◌, ◌≤◌, ◌⊎◌, ◌&&◌, ◌==◌, true, [], if◌then◌else◌, IfOk, MatchOption, Some, length, slice_set, vec_capacity};
 ghost use Rattle.qc_starts.specs.NodeArcs.{IsSound};
 ghost use Rattle.qc_starts.specs.Noting.{HasNotes, Wrote};
 ghost use Rattle.qc_starts.specs.Opened.{HasBegun, IsOpened};

@@ -1,7 +1,7 @@
 //! The way back from a task by what raised each, to a task that nothing raised or around a ring. A ring is rare, so
 //! only its walk looks at each task for whether it was met before.
 
-ghost use Rattle.std.specs.Prelude.{◌≡◌, ◌*◌, ◌+◌, ◌<◌, ◌≤◌, ◌∷◌, length};
+ghost use Rattle.std.specs.Prelude.{◌≡◌, ◌*◌, ◌<◌, ◌≤◌, ◌∷◌, length};
 ghost use Rattle.qc_model.specs.declared.limits.TheConstants.{MOST_TASKS};
 ghost use Rattle.qc_starts.specs.Found.{why_in};
 ghost use Rattle.qc_starts.specs.Ways.{AreBacked, IsBackTo, IsEndless, IsPlace, IsRing, IsRising};

@@ -1,6 +1,6 @@
 //! The instance of a ship and its moves.
 ghost use Rattle.std.specs.Prelude.{◌≡◌, IfOk};
-ghost use Rattle.qc_tasks.specs.InstanceOf.{instance_of, tasks_of};
+ghost use Rattle.qc_tasks.specs.InstanceOf.{instance_of};
 
 use crate::apart::pairs_apart;
 use crate::before::before_of;

@@ -1,5 +1,5 @@
 //! The tasks of a ship.
-ghost use Rattle.std.specs.Prelude.{◌≡◌, ◌≤◌, ◌*◌, ◌+◌, ◌++◌, length, IfOk, OnOk};
+ghost use Rattle.std.specs.Prelude.{◌≡◌, ◌≤◌, ◌+◌, ◌++◌, length, IfOk, OnOk};
 ghost use Rattle.std.specs.List.{flat_map};
 ghost use Rattle.qc_stow.specs.Moves.{most_moves};
 ghost use Rattle.qc_tasks.specs.InstanceOf.{phases, tasks_at, tasks_of, ticks_in};

@@ -1,5 +1,5 @@
 //! How a line of a tree is written.
-ghost use Rattle.std.specs.Prelude.{◌≡◌, ◌≤◌, ◌<◌, ◌+◌, ◌*◌, ◌++◌, ◌∷◌, [], length};
+ghost use Rattle.std.specs.Prelude.{◌≡◌, ◌≤◌, ◌+◌, ◌++◌, ◌∷◌, [], length};
 ghost use Rattle.qc_io.specs.Writes.{Writes};
 ghost use Rattle.qc_tree.specs.Lines.{AreTasks, IsLine, IsTask, bound_field, fields, line_text};
 

@@ -40,7 +40,7 @@ use Rattle.qc_run.proofs.StatusLemmas.{stop_is_not}
 use Rattle.qc_run.proofs.ToldLemmas.{cut_told, memory_told, never_usage, of_status, refused_told}
 use Rattle.qc_trial.specs.declared.made.Made.{Made}
 use Rattle.qc_trial.specs.Account.{IsMaking, IsMakingTold, IsTrialRun, TrialPromises}
-use Rattle.qc_trial.specs.Made.{made_branchings, made_due}
+use Rattle.qc_trial.specs.Made.{made_due}
 use Rattle.qc_trial.specs.Stored.{AreStored, IsPlanStored, IsSearchFor}
 use Rattle.qc_trial.specs.Texts.{made_text}
 
