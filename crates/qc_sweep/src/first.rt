@@ -7,10 +7,11 @@ ghost use Rattle.qc_sweep.specs.Plans.{IsFirstPlan};
 
 use crate::grain::{grain, up_to_grain};
 use crate::hunt::{Hunt, Parts, trial};
+use crate::local::improve;
 use crate::schedule::{better, schedule_of};
 use crate::split::split;
 use qc_dist::in_reach;
-use qc_model::{Direction, Instance, Schedule, mirror};
+use qc_model::{Direction, Instance, Schedule, direction_of, mirror, seen_number};
 use qc_num::{OutOfMemory, Tick};
 use qc_part::Part;
 use std::alloc::Global;
@@ -20,6 +21,9 @@ const LATEST: Tick = 68_719_476_736;
 
 /// At the beginning a later end isn't looked at.
 const MOST_LOW: Tick = 17_179_869_184;
+
+/// How many changes the local search tries.
+const TRIES: u32 = 1_500_000;
 
 /// How many states a layer keeps, round by round.
 const WIDTHS: [usize; 4] = [16, 64, 256, 1024];
@@ -183,7 +187,80 @@ fn plan_of(
             round(alloc, inst, parts, &mut hunt, grain, width)?;
         }
     }
-    Ok(hunt.best)
+    climbed(alloc, inst, parts, hunt)
+}
+
+/// What a local search makes of what the sweeps came to; of plain splits, both ways, where they came to nothing.
+fn climbed(
+    alloc: Global,
+    inst: &Instance,
+    parts: &Parts,
+    hunt: Hunt,
+) -> Result<Option<Schedule>, OutOfMemory>
+    requires parts { AreParts inst.now parts.now }
+    requires best { IfSome hunt.best (IsFirstPlan inst.now) }
+    ensures { IfOk result (λ found. IfSome found (IsFirstPlan inst.now)) }
+{
+    let low = hunt.low();
+    let Some(best) = hunt.best else {
+        let cranes = split(alloc, &parts.up)?;
+        let up = improve(
+            alloc,
+            inst,
+            &parts.up,
+            Direction::Up,
+            cranes.as_slice(),
+            None,
+            low,
+            TRIES / 2,
+        )?;
+        let cranes = split(alloc, &parts.down)?;
+        return improve(
+            alloc,
+            inst,
+            &parts.down,
+            Direction::Down,
+            cranes.as_slice(),
+            up,
+            low,
+            TRIES / 2,
+        );
+    };
+    let way = match direction_of(inst, &best) {
+        Ok(way) => way,
+        Err(_) => return Ok(Some(best)),
+    };
+    let cranes = cranes_seen(alloc, inst, way, &best)?;
+    let part = match way {
+        Direction::Up => &parts.up,
+        Direction::Down => &parts.down,
+    };
+    improve(
+        alloc,
+        inst,
+        part,
+        way,
+        cranes.as_slice(),
+        Some(best),
+        low,
+        TRIES,
+    )
+}
+
+/// The crane of each task, numbered as it is seen this way.
+fn cranes_seen(
+    alloc: Global,
+    inst: &Instance,
+    way: Direction,
+    sched: &Schedule,
+) -> Result<Vec<Option<u16>>, OutOfMemory>
+    requires { IsFirstPlan inst.now sched.now }
+{
+    let mut cranes = Vec::new(alloc);
+    for task in 0..inst.task_count() {
+        cranes.push(Some(seen_number(inst, way, sched.slots()[task as usize].crane)))?;
+    }
+    Ok(cranes)
 }
 
 /// A schedule for a search to begin with, found with at most so much effort: of so many states of the

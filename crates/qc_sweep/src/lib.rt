@@ -6,14 +6,20 @@
 #![tactic(auto)]
 
 mod chosen;
+mod dice;
 mod first;
 mod grain;
 mod hunt;
+mod late;
 mod layer;
+mod local;
 mod node;
 mod schedule;
+mod shares;
 mod split;
 mod sweep;
 mod trail;
+mod tries;
+mod walk;
 
 pub use first::first_plan;

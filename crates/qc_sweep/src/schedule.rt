@@ -152,7 +152,7 @@ pub(crate) fn schedule_of(
 }
 
 /// The same, with the starts at which nothing is decided yet.
-fn schedule_from_undecided(
+pub(crate) fn schedule_from_undecided(
     alloc: Global,
     inst: &Instance,
     way: Direction,
