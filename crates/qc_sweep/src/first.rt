@@ -6,12 +6,12 @@ ghost use Rattle.qc_sweep.specs.Hunts.{AreParts};
 ghost use Rattle.qc_sweep.specs.Plans.{IsFirstPlan};
 
 use crate::grain::{grain, up_to_grain};
-use crate::hunt::{Hunt, Parts, trial};
-use crate::local::improve;
-use crate::schedule::{better, schedule_of};
+use crate::hunt::{Hunt, Parts, Start, trial};
+use crate::local::improved;
+use crate::schedule::{better, end_of, schedule_of};
 use crate::split::split;
 use qc_dist::in_reach;
-use qc_model::{Direction, Instance, Schedule, direction_of, mirror, seen_number};
+use qc_model::{Direction, Instance, Schedule, mirror};
 use qc_num::{OutOfMemory, Tick};
 use qc_part::Part;
 use std::alloc::Global;
@@ -22,8 +22,8 @@ const LATEST: Tick = 68_719_476_736;
 /// At the beginning a later end isn't looked at.
 const MOST_LOW: Tick = 17_179_869_184;
 
-/// How many changes the local search tries.
-const TRIES: u32 = 1_500_000;
+/// How often a local search looks at what it has seen.
+const LOOKS: u32 = 16_000;
 
 /// How many states a layer keeps, round by round.
 const WIDTHS: [usize; 4] = [16, 64, 256, 1024];
@@ -79,18 +79,20 @@ fn parts_of(alloc: Global, inst: &Instance) -> Result<Option<Parts>, OutOfMemory
     }
 }
 
-/// The split of whole hatches as a schedule that goes this way.
+/// The split of whole hatches, and its schedule that goes this way.
 fn split_plan(
     alloc: Global,
     inst: &Instance,
     part: &Part,
     way: Direction,
-) -> Result<Option<Schedule>, OutOfMemory>
+) -> Result<(Start, Option<Schedule>), OutOfMemory>
     requires { part.now ≡ seen inst.now way }
-    ensures { IfOk result (λ found. IfSome found (IsFirstPlan inst.now)) }
+    ensures { IfOk result (λ found. IfSome found.1 (IsFirstPlan inst.now)) }
 {
     let cranes = split(alloc, part)?;
-    schedule_of(alloc, inst, way, part.instance(), cranes.as_slice())
+    let plan = schedule_of(alloc, inst, way, part.instance(), cranes.as_slice())?;
+    let end = end_of(inst, &plan);
+    Ok((Start { cranes, end }, plan))
 }
 
 /// What is known before any sweep.
@@ -98,13 +100,15 @@ fn begin(alloc: Global, inst: &Instance, parts: &Parts, effort: usize) -> Result
     requires { AreParts inst.now parts.now }
     ensures { IfOk result (λ hunt. IfSome hunt.best (IsFirstPlan inst.now)) }
 {
-    let up = split_plan(alloc, inst, &parts.up, Direction::Up)?;
-    let down = split_plan(alloc, inst, &parts.down, Direction::Down)?;
+    let (up, up_plan) = split_plan(alloc, inst, &parts.up, Direction::Up)?;
+    let (down, down_plan) = split_plan(alloc, inst, &parts.down, Direction::Down)?;
     Ok(Hunt {
         low_up: low_end(&parts.up),
         low_down: low_end(&parts.down),
         cap: None,
-        best: better(inst, up, down),
+        best: better(inst, up_plan, down_plan),
+        up,
+        down,
         effort,
     })
 }
@@ -187,11 +191,27 @@ fn plan_of(
             round(alloc, inst, parts, &mut hunt, grain, width)?;
         }
     }
-    climbed(alloc, inst, parts, hunt)
+    improve(alloc, inst, parts, hunt)
 }
 
-/// What a local search makes of what the sweeps came to; of plain splits, both ways, where they came to nothing.
-fn climbed(
+/// The schedule that a local search of a way comes to.
+fn local_plan(
+    alloc: Global,
+    inst: &Instance,
+    part: &Part,
+    way: Direction,
+    start: &Start,
+    low: Tick,
+) -> Result<Option<Schedule>, OutOfMemory>
+    requires { part.now ≡ seen inst.now way }
+    ensures { IfOk result (λ found. IfSome found (IsFirstPlan inst.now)) }
+{
+    let cranes = improved(alloc, part, start, low, LOOKS)?;
+    schedule_of(alloc, inst, way, part.instance(), cranes.as_slice())
+}
+
+/// What local searches of both ways make of what the splits and the sweeps came to.
+fn improve(
     alloc: Global,
     inst: &Instance,
     parts: &Parts,
@@ -202,65 +222,9 @@ fn climbed(
     ensures { IfOk result (λ found. IfSome found (IsFirstPlan inst.now)) }
 {
     let low = hunt.low();
-    let Some(best) = hunt.best else {
-        let cranes = split(alloc, &parts.up)?;
-        let up = improve(
-            alloc,
-            inst,
-            &parts.up,
-            Direction::Up,
-            cranes.as_slice(),
-            None,
-            low,
-            TRIES / 2,
-        )?;
-        let cranes = split(alloc, &parts.down)?;
-        return improve(
-            alloc,
-            inst,
-            &parts.down,
-            Direction::Down,
-            cranes.as_slice(),
-            up,
-            low,
-            TRIES / 2,
-        );
-    };
-    let way = match direction_of(inst, &best) {
-        Ok(way) => way,
-        Err(_) => return Ok(Some(best)),
-    };
-    let cranes = cranes_seen(alloc, inst, way, &best)?;
-    let part = match way {
-        Direction::Up => &parts.up,
-        Direction::Down => &parts.down,
-    };
-    improve(
-        alloc,
-        inst,
-        part,
-        way,
-        cranes.as_slice(),
-        Some(best),
-        low,
-        TRIES,
-    )
-}
-
-/// The crane of each task, numbered as it is seen this way.
-fn cranes_seen(
-    alloc: Global,
-    inst: &Instance,
-    way: Direction,
-    sched: &Schedule,
-) -> Result<Vec<Option<u16>>, OutOfMemory>
-    requires { IsFirstPlan inst.now sched.now }
-{
-    let mut cranes = Vec::new(alloc);
-    for task in 0..inst.task_count() {
-        cranes.push(Some(seen_number(inst, way, sched.slots()[task as usize].crane)))?;
-    }
-    Ok(cranes)
+    let up = local_plan(alloc, inst, &parts.up, Direction::Up, &hunt.up, low)?;
+    let down = local_plan(alloc, inst, &parts.down, Direction::Down, &hunt.down, low)?;
+    Ok(better(inst, hunt.best, better(inst, up, down)))
 }
 
 /// A schedule for a search to begin with, found with at most so much effort: of so many states of the

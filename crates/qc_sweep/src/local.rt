@@ -1,97 +1,73 @@
 //! A local search: late acceptance over exchanges of tasks between neighbouring cranes.
 
-ghost use Rattle.std.specs.Prelude.{◌≡◌, ℕ, None, IfOk, IfSome};
+ghost use Rattle.std.specs.Prelude.{◌≡◌, ℕ, None};
 ghost use Rattle.qc_model.specs.Nodes.{assigned};
-ghost use Rattle.qc_model.specs.Seen.{seen};
-ghost use Rattle.qc_sweep.specs.Plans.{IsFirstPlan};
 
-use crate::schedule::{better, schedule_from_undecided};
+use crate::hunt::Start;
+use crate::schedule::place_all;
 use crate::walk::Walk;
-use qc_model::{Direction, Instance, Schedule, ends};
+use qc_model::Instance;
 use qc_num::{OutOfMemory, Tick};
 use qc_part::Part;
 use qc_starts::{Starts, go_back};
 use std::alloc::Global;
 
-/// So many schedules are made and judged at the most.
-const MOST_JUDGED: u32 = 3_000;
+/// How many changes are tried between two looks at what was seen.
+const LOOK: u32 = 50;
 
-/// When a schedule ends; later than any where there is none.
-fn end_of(inst: &Instance, best: &Option<Schedule>) -> Tick
-    requires { IfSome best.now (IsFirstPlan inst.now) }
+/// When the last task ends.
+fn last_end(starts: &Starts, inst: &Instance) -> Tick
+    requires { starts.now.inst ≡ inst.now }
 {
-    match best {
-        Some(sched) => ends(inst, sched),
-        None => Tick::MAX,
+    let mut last: Tick = 0;
+    for task in 0..inst.task_count() {
+        let end = starts.start(task).saturating_add(inst.task(task).ticks);
+        last = last.max(end);
     }
+    last
 }
 
-/// The schedule of these cranes, by starts at which nothing is decided, before and after.
-fn schedule_by(
-    alloc: Global,
-    inst: &Instance,
-    way: Direction,
-    starts: &mut Starts,
-    turned: &Instance,
-    cranes: &[Option<u16>],
-) -> Result<Option<Schedule>, OutOfMemory>
-    requires turned { turned.now ≡ seen inst.now way }
-    requires starts { starts.old.inst ≡ turned.now }
+/// When all is done where each task has its crane and starts as early as can be; later than ever where that can't be.
+/// Nothing is decided of the starts, before and after.
+fn end_by(starts: &mut Starts, inst: &Instance, cranes: &[Option<u16>]) -> Tick
+    requires starts { starts.old.inst ≡ inst.now }
     requires none { (j : ℕ) → assigned starts.old.decisions j ≡ None }
-    ensures found { IfOk result (λ found. IfSome found (IsFirstPlan inst.now)) }
-    ensures starts { starts.new.inst ≡ turned.now }
+    ensures starts { starts.new.inst ≡ inst.now }
     ensures none { (j : ℕ) → assigned starts.new.decisions j ≡ None }
 {
-    let found = schedule_from_undecided(alloc, inst, way, starts, turned, cranes);
+    let end = if place_all(starts, inst, cranes) {
+        last_end(starts, inst)
+    } else {
+        Tick::MAX
+    };
     go_back(starts, 0);
-    found
+    end
 }
 
-/// The best schedule that a local search comes to which begins with these cranes and tries so many changes: the given
-/// one, or one that ends earlier. None is looked for that ends before the low tick.
-pub(crate) fn improve(
+/// The best cranes of a part that a local search comes to which begins with these and looks so often at what it has seen.
+/// None are looked for that are done before the low tick.
+pub(crate) fn improved(
     alloc: Global,
-    inst: &Instance,
     part: &Part,
-    way: Direction,
-    cranes: &[Option<u16>],
-    given: Option<Schedule>,
+    start: &Start,
     low: Tick,
-    tries: u32,
-) -> Result<Option<Schedule>, OutOfMemory>
-    requires seen { part.now ≡ seen inst.now way }
-    requires given { IfSome given (IsFirstPlan inst.now) }
-    ensures { IfOk result (λ found. IfSome found (IsFirstPlan inst.now)) }
-{
-    let mut best = given;
-    let mut end = end_of(inst, &best);
-    let mut starts = Starts::open(alloc, part.instance())?;
-    let mut walk = Walk::open(alloc, part, cranes, low)?;
-    let mut judged = 0;
-    for _ in 0..tries {
-        if end <= low || judged >= MOST_JUDGED {
+    looks: u32,
+) -> Result<Vec<Option<u16>>, OutOfMemory> {
+    let inst = part.instance();
+    let mut starts = Starts::open(alloc, inst)?;
+    let mut walk = Walk::open(alloc, part, start.cranes.as_slice(), low)?;
+    let mut end = start.end;
+    for _ in 0..looks {
+        if end <= low {
             break;
         }
-        let Some(latest) = walk.step()? else {
-            continue;
-        };
-        if latest < end {
-            judged += 1;
-            let cranes = walk.cranes(alloc)?;
-            let found = schedule_by(
-                alloc,
-                inst,
-                way,
-                &mut starts,
-                part.instance(),
-                cranes.as_slice(),
-            )?;
-            if end_of(inst, &found) < end {
-                end = end_of(inst, &found);
-                best = found;
-                walk.take_best(cranes);
+        if walk.go(LOOK, end)? {
+            let seen = end_by(&mut starts, inst, walk.seen());
+            if seen < end {
+                end = seen;
+                walk.take_seen()?;
             }
         }
     }
-    Ok(best)
+    Ok(walk.into_best())
 }

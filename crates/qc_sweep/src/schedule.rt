@@ -12,7 +12,7 @@ use qc_model::{
     Decision, Direction, Instance, MOST_START, Pair, Schedule, Slot, direction_of, ends,
     seen_number,
 };
-use qc_num::OutOfMemory;
+use qc_num::{OutOfMemory, Tick};
 use qc_starts::{Starts, go, go_back};
 use std::alloc::Global;
 
@@ -100,6 +100,15 @@ fn order_all(starts: &mut Starts, inst: &Instance) -> bool
     true
 }
 
+/// Puts all tasks on their cranes and orders what is apart, where nothing is decided. Whether that can be.
+pub(crate) fn place_all(starts: &mut Starts, inst: &Instance, cranes: &[Option<u16>]) -> bool
+    requires starts { starts.old.inst ≡ inst.now }
+    requires none { (j : ℕ) → assigned starts.old.decisions j ≡ None }
+    ensures { starts.new.inst ≡ starts.old.inst }
+{
+    assign_all(starts, cranes) && order_all(starts, inst) && !starts.stuck()
+}
+
 /// The schedule of the least starts, which are those of the instance seen this way.
 fn written(
     alloc: Global,
@@ -152,7 +161,7 @@ pub(crate) fn schedule_of(
 }
 
 /// The same, with the starts at which nothing is decided yet.
-pub(crate) fn schedule_from_undecided(
+fn schedule_from_undecided(
     alloc: Global,
     inst: &Instance,
     way: Direction,
@@ -165,11 +174,21 @@ pub(crate) fn schedule_from_undecided(
     requires none { (j : ℕ) → assigned starts.old.decisions j ≡ None }
     ensures { IfOk result (λ found. IfSome found (IsFirstPlan inst.now)) }
 {
-    if !assign_all(starts, cranes) || !order_all(starts, turned) || starts.stuck() {
+    if !place_all(starts, turned, cranes) {
         return Ok(None);
     }
     let sched = written(alloc, inst, way, starts)?;
     Ok(judged(inst, sched))
+}
+
+/// When a schedule ends; later than any where there is none.
+pub(crate) fn end_of(inst: &Instance, sched: &Option<Schedule>) -> Tick
+    requires { IfSome sched.now (IsFirstPlan inst.now) }
+{
+    match sched {
+        Some(sched) => ends(inst, sched),
+        None => Tick::MAX,
+    }
 }
 
 /// Of two schedules, where there are any, the one that ends first, and the first of both where they

@@ -144,13 +144,13 @@ impl Shares {
         }
     }
 
-    /// The cranes of all tasks.
-    pub(crate) fn cranes(&self, alloc: Global) -> Result<Vec<Option<u16>>, OutOfMemory> {
-        let mut cranes = Vec::new(alloc);
+    /// Writes down the cranes of all tasks.
+    pub(crate) fn write(&self, cranes: &mut Vec<Option<u16>>) -> Result<(), OutOfMemory> {
+        cranes.clear();
         for load in self.loads.as_slice() {
             cranes.push(Some(load.crane))?;
         }
-        Ok(cranes)
+        Ok(())
     }
 
     /// The number of the visit at which a crane does a task, where it reaches it.

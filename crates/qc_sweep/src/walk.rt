@@ -20,6 +20,9 @@ pub(crate) struct Walk {
     low: i64,
     /// The cranes at which it takes up again.
     best: Vec<Option<u16>>,
+    /// The earliest end that it looks out for or has seen, and the cranes with which it saw one.
+    earliest: Tick,
+    seen: Vec<Option<u16>>,
 }
 
 /// By how many ticks each crane is done behind the low one, together.
@@ -51,7 +54,8 @@ impl Walk {
         let shares = Shares::of(alloc, part, cranes)?;
         let low = i64::try_from(low).unwrap_or(0);
         let cost = cost_of(&shares.ends(), low);
-        let best = shares.cranes(alloc)?;
+        let mut best = Vec::new(alloc);
+        shares.write(&mut best)?;
         Ok(Walk {
             shares,
             dice: Dice::new(),
@@ -59,22 +63,15 @@ impl Walk {
             cost,
             low,
             best,
+            earliest: 0,
+            seen: Vec::new(alloc),
         })
     }
 
-    /// The cranes where it is.
-    pub(crate) fn cranes(&self, alloc: Global) -> Result<Vec<Option<u16>>, OutOfMemory> {
-        self.shares.cranes(alloc)
-    }
-
-    /// When all is done where it is, at the earliest.
-    pub(crate) fn end(&self) -> Tick {
-        latest(&self.shares.ends())
-    }
-
-    /// From now on it takes up again at these cranes.
-    pub(crate) fn take_best(&mut self, cranes: Vec<Option<u16>>) {
-        self.best = cranes;
+    /// The cranes at which it takes up again.
+    pub(crate) fn into_best(self) -> Vec<Option<u16>> {
+        let Walk { best, .. } = self;
+        best
     }
 
     /// Takes up again at the best cranes, with room for what costs a little more.
@@ -88,18 +85,28 @@ impl Walk {
         self.late = Late::new(self.cost.saturating_add(self.low / 1_000));
     }
 
-    /// Tries a change. Where it is kept and is another one: when all is done then, at the earliest.
-    pub(crate) fn step(&mut self) -> Result<Option<Tick>, OutOfMemory> {
+    /// Keeps what a change came to, and writes it down where it ends earlier than what was seen.
+    fn keep(&mut self, ends: &[i64; MOST_CRANES as usize], cost: i64) -> Result<(), OutOfMemory> {
+        self.shares.keep();
+        self.cost = cost;
+        let end = latest(ends);
+        if end < self.earliest {
+            self.earliest = end;
+            self.shares.write(&mut self.seen)?;
+        }
+        Ok(())
+    }
+
+    /// Tries a change.
+    fn step(&mut self) -> Result<(), OutOfMemory> {
         if !change(&mut self.shares, &mut self.dice)? {
             self.shares.take_back();
-            return Ok(None);
+            return Ok(());
         }
         let ends = self.shares.ends();
         let cost = cost_of(&ends, self.low);
-        let is_kept = self.late.accepts(self.cost, cost);
-        if is_kept {
-            self.shares.keep();
-            self.cost = cost;
+        if self.late.accepts(self.cost, cost) {
+            self.keep(&ends, cost)?;
         } else {
             self.shares.take_back();
         }
@@ -107,6 +114,30 @@ impl Walk {
         if self.late.is_idle() {
             self.begin_again();
         }
-        Ok(if is_kept { Some(latest(&ends)) } else { None })
+        Ok(())
+    }
+
+    /// Tries so many changes. Whether cranes were seen that are done before a tick, where pairs that are apart or
+    /// ordered don't count.
+    pub(crate) fn go(&mut self, tries: u32, end: Tick) -> Result<bool, OutOfMemory> {
+        self.earliest = end;
+        for _ in 0..tries {
+            self.step()?;
+        }
+        Ok(self.earliest < end)
+    }
+
+    /// Those cranes.
+    pub(crate) fn seen(&self) -> &[Option<u16>] {
+        self.seen.as_slice()
+    }
+
+    /// From now on it takes up again at the cranes that were seen.
+    pub(crate) fn take_seen(&mut self) -> Result<(), OutOfMemory> {
+        self.best.clear();
+        for crane in self.seen.as_slice() {
+            self.best.push(*crane)?;
+        }
+        Ok(())
     }
 }
