@@ -294,10 +294,10 @@ fn work(
     ends: &mut [i64; MOST_CRANES as usize],
 ) {
     let crane = (visit.crane % MOST_CRANES) as usize;
-    let start = visit.along.saturating_add(fronts[crane]).max(visit.free);
-    let end = start.saturating_add(visit.work);
+    let start = visit.along.wrapping_add(fronts[crane]).max(visit.free);
+    let end = start.wrapping_add(visit.work);
     ends[crane] = end;
-    let front = end.saturating_sub(visit.along);
+    let front = end.wrapping_sub(visit.along);
     for other in 0..crane + 1 {
         fronts[other] = fronts[other].max(front);
     }
