@@ -22,8 +22,10 @@ const LATEST: Tick = 68_719_476_736;
 /// At the beginning a later end isn't looked at.
 const MOST_LOW: Tick = 17_179_869_184;
 
-/// How often a local search looks at what it has seen.
-const LOOKS: u32 = 16_000;
+/// How often a local search of a way looks at what it has seen, and a further one of the better way.
+const LOOKS: u32 = 8_000;
+
+const MORE_LOOKS: u32 = 24_000;
 
 /// How many states a layer keeps, round by round.
 const WIDTHS: [usize; 4] = [16, 64, 256, 1024];
@@ -194,7 +196,7 @@ fn plan_of(
     improve(alloc, inst, parts, hunt)
 }
 
-/// The schedule that a local search of a way comes to.
+/// The schedule that a further local search of a way comes to.
 fn local_plan(
     alloc: Global,
     inst: &Instance,
@@ -206,11 +208,12 @@ fn local_plan(
     requires { part.now ≡ seen inst.now way }
     ensures { IfOk result (λ found. IfSome found (IsFirstPlan inst.now)) }
 {
-    let cranes = improved(alloc, part, start, low, LOOKS)?;
-    schedule_of(alloc, inst, way, part.instance(), cranes.as_slice())
+    let last = improved(alloc, part, start, low, MORE_LOOKS)?;
+    schedule_of(alloc, inst, way, part.instance(), last.cranes.as_slice())
 }
 
-/// What local searches of both ways make of what the splits and the sweeps came to.
+/// What local searches make of what the splits and the sweeps came to: a short one of each way, and a long one of that
+/// which is better then.
 fn improve(
     alloc: Global,
     inst: &Instance,
@@ -222,9 +225,14 @@ fn improve(
     ensures { IfOk result (λ found. IfSome found (IsFirstPlan inst.now)) }
 {
     let low = hunt.low();
-    let up = local_plan(alloc, inst, &parts.up, Direction::Up, &hunt.up, low)?;
-    let down = local_plan(alloc, inst, &parts.down, Direction::Down, &hunt.down, low)?;
-    Ok(better(inst, hunt.best, better(inst, up, down)))
+    let up = improved(alloc, &parts.up, &hunt.up, low, LOOKS)?;
+    let down = improved(alloc, &parts.down, &hunt.down, low, LOOKS)?;
+    let found = if up.end <= down.end {
+        local_plan(alloc, inst, &parts.up, Direction::Up, &up, low)?
+    } else {
+        local_plan(alloc, inst, &parts.down, Direction::Down, &down, low)?
+    };
+    Ok(better(inst, hunt.best, found))
 }
 
 /// A schedule for a search to begin with, found with at most so much effort: of so many states of the

@@ -52,7 +52,7 @@ pub(crate) fn improved(
     start: &Start,
     low: Tick,
     looks: u32,
-) -> Result<Vec<Option<u16>>, OutOfMemory> {
+) -> Result<Start, OutOfMemory> {
     let inst = part.instance();
     let mut starts = Starts::open(alloc, inst)?;
     let mut walk = Walk::open(alloc, part, start.cranes.as_slice(), low)?;
@@ -69,5 +69,8 @@ pub(crate) fn improved(
             }
         }
     }
-    Ok(walk.into_best())
+    Ok(Start {
+        cranes: walk.into_best(),
+        end,
+    })
 }

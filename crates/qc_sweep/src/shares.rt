@@ -298,7 +298,8 @@ fn work(
     let end = start.wrapping_add(visit.work);
     ends[crane] = end;
     let front = end.wrapping_sub(visit.along);
-    for other in 0..crane + 1 {
-        fronts[other] = fronts[other].max(front);
+    for other in 0..MOST_CRANES as usize {
+        let raised = if other <= crane { front } else { i64::MIN };
+        fronts[other] = fronts[other].max(raised);
     }
 }
