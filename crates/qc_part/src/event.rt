@@ -46,10 +46,10 @@ impl Event {
             };
         }
         let ticks = self.block.work_between(from, count);
-        let end = self.start(state).saturating_add(ticks);
+        let end = self.start(state).wrapping_add(ticks);
         let mut worked = *state;
         worked.done[self.hatch as usize] = count;
-        worked.fronts = raised(&state.fronts, self.crane, end.saturating_sub(self.along));
+        worked.fronts = raised(&state.fronts, self.crane, end.wrapping_sub(self.along));
         Child {
             state: worked,
             end: Some(end.max(0) as Tick),
@@ -59,7 +59,7 @@ impl Event {
     /// When the first of the tasks starts: not before the crane can be there, and not before its front.
     fn start(&self, state: &State) -> i64 {
         let front = state.fronts[self.crane as usize];
-        self.along.saturating_add(front).max(self.free)
+        self.along.wrapping_add(front).max(self.free)
     }
 }
 

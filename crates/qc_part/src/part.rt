@@ -6,15 +6,18 @@ ghost use Rattle.qc_model.specs.Numbers.{most_hatches};
 use crate::event::Event;
 use crate::events::{Numbers, events_of, numbers_of};
 use crate::hatch::{Hatch, hatches_of};
-use crate::places::{berth, first_front, gap_bays, shift};
+use crate::places::{Stands, first_front, stands_of};
 use crate::rest::{Rest, Rests, least_start};
 use crate::rooms::{Cranes, room_slack};
 use crate::state::State;
 use crate::windows::window_slack;
-use qc_model::{Instance, MOST_CRANES, MOST_HATCHES, copy, travel_over};
+use qc_model::{Instance, MOST_CRANES, MOST_HATCHES, copy};
 use qc_num::{OutOfMemory, Tick};
 use std::alloc::Global;
 use std::marker::Model;
+
+/// A tick that no crane comes to, and to which a way can be added.
+const NEVER: i64 = 1 << 60;
 
 /// A ship read upward: its hatches along the ship, and the events in the order in which tasks wait
 /// for each other. It keeps a copy of the instance, and as that it is seen.
@@ -23,6 +26,7 @@ pub struct Part {
     hatches: Vec<Hatch>,
     events: Vec<Event>,
     numbers: Numbers,
+    stands: Stands,
 }
 
 impl Model for Part {
@@ -44,6 +48,7 @@ impl Drop for Part {
             hatches: _,
             events: _,
             numbers: _,
+            stands: _,
         } = self;
     }
 }
@@ -65,6 +70,7 @@ impl Part {
             hatches,
             events,
             numbers,
+            stands: stands_of(inst),
         }))
     }
 
@@ -108,19 +114,21 @@ impl Part {
 
     /// When each crane could be at place 0.
     fn lines(&self, state: &State) -> [i64; MOST_CRANES as usize] {
-        let mut lines = [i64::MAX; MOST_CRANES as usize];
+        let mut lines = [NEVER; MOST_CRANES as usize];
         for crane in 0..self.inst.crane_count() {
             let front = state.fronts[crane as usize];
-            lines[crane as usize] = front.saturating_add(shift(&self.inst, crane));
+            lines[crane as usize] = front.wrapping_add(self.stands.shifts[crane as usize]);
         }
         lines
     }
 
     /// How far each crane then stands from where it could be.
     fn turns(&self, lines: &[i64; MOST_CRANES as usize]) -> [i64; MOST_CRANES as usize] {
-        let mut turns = [0; MOST_CRANES as usize];
+        let mut turns = [NEVER; MOST_CRANES as usize];
         for crane in 0..self.inst.crane_count() {
-            turns[crane as usize] = berth(&self.inst, crane).saturating_sub(lines[crane as usize]);
+            turns[crane as usize] = self.stands.berths[crane as usize].wrapping_sub(
+                lines[crane as usize],
+            );
         }
         turns
     }
@@ -147,15 +155,15 @@ impl Part {
         let last = i64::try_from(end.checked_sub(1)?).ok()?;
         let mut lines = self.lines(state);
         let rests = self.rests(state, e, &lines)?;
-        let turns = self.turns(&lines);
+        let mut turns = self.turns(&lines);
         lines.sort_unstable();
+        turns.sort_unstable();
         let cranes = Cranes {
             lines,
             turns,
             count: self.inst.crane_count(),
         };
-        let gap = travel_over(&self.inst, gap_bays(&self.inst)) as i64;
-        let windows = window_slack(rests.as_slice(), gap, last)?;
+        let windows = window_slack(rests.as_slice(), self.stands.gap, last)?;
         let rooms = room_slack(rests.as_slice(), &cranes, last)?;
         Some(windows.min(rooms))
     }

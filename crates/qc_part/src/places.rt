@@ -8,7 +8,7 @@ use qc_model::{Instance, MOST_CRANES, bays_up, travel_over};
 use qc_num::Tick;
 
 /// How many bays neighbouring cranes are apart at least.
-pub(crate) fn gap_bays(inst: &Instance) -> Tick
+fn gap_bays(inst: &Instance) -> Tick
     ensures bound { result ≤ 2000 }
     ensures valid { Valid inst.now }
 {
@@ -59,11 +59,33 @@ pub(crate) fn first_front(inst: &Instance, crane: u16) -> i64
 }
 
 /// When a crane is ready, and how far along the ship it stands then, both together in ticks.
-pub(crate) fn berth(inst: &Instance, crane: u16) -> i64
+fn berth(inst: &Instance, crane: u16) -> i64
     requires { crane < length inst.now.cranes }
 {
     let post = inst.post(crane);
     let behind = travel_over(inst, bays_up(post.bay, 0));
     let ahead = travel_over(inst, bays_up(0, post.bay));
     (post.ready + ahead) as i64 - behind as i64
+}
+
+/// Where the cranes of an instance stand, crane by crane, and the gap between neighbours, in ticks of travel.
+#[derive(Clone, Copy)]
+pub(crate) struct Stands {
+    pub(crate) shifts: [i64; MOST_CRANES as usize],
+    pub(crate) berths: [i64; MOST_CRANES as usize],
+    pub(crate) gap: i64,
+}
+
+/// Where the cranes of this instance stand.
+pub(crate) fn stands_of(inst: &Instance) -> Stands {
+    let mut stands = Stands {
+        shifts: [0; MOST_CRANES as usize],
+        berths: [0; MOST_CRANES as usize],
+        gap: travel_over(inst, gap_bays(inst)) as i64,
+    };
+    for crane in 0..inst.crane_count() {
+        stands.shifts[crane as usize] = shift(inst, crane);
+        stands.berths[crane as usize] = berth(inst, crane);
+    }
+    stands
 }

@@ -63,7 +63,7 @@ pub(crate) fn least_start(
     let mut least: Option<i64> = None;
     for crane in 0..MOST_CRANES as usize {
         if events[crane] > now {
-            let there = lines[crane].saturating_add(hatch.place);
+            let there = lines[crane].wrapping_add(hatch.place);
             let start = there.max(hatch.free[crane]);
             least = Some(least.map_or(start, |other| other.min(start)));
         }

@@ -14,7 +14,7 @@ pub(crate) struct Cranes {
 
 /// The time of a crane from a start on.
 fn room(start: i64, until: i64) -> i64 {
-    until.saturating_sub(start).max(0)
+    until.wrapping_sub(start).max(0)
 }
 
 /// How few cranes have together as much time as a load takes; `None` where all have less.
@@ -24,7 +24,7 @@ fn fewest(lines: &[i64; MOST_CRANES as usize], until: i64, load: i64) -> Option<
         if time >= load {
             return Some(cranes);
         }
-        time = time.saturating_add(room(lines[cranes as usize], until));
+        time = time.wrapping_add(room(lines[cranes as usize], until));
     }
     if time >= load {
         Some(MOST_CRANES)
@@ -37,7 +37,7 @@ fn fewest(lines: &[i64; MOST_CRANES as usize], until: i64, load: i64) -> Option<
 fn time_of_all(lines: &[i64; MOST_CRANES as usize], until: i64) -> i64 {
     let mut time: i64 = 0;
     for line in lines {
-        time = time.saturating_add(room(*line, until));
+        time = time.wrapping_add(room(*line, until));
     }
     time
 }
@@ -50,11 +50,11 @@ fn load_of(rests: &[Rest], cranes: &Cranes, last: i64) -> Option<i64> {
     for done in 0..rests.len() {
         let rest = rests[rests.len() - 1 - done];
         if let Some((place, count)) = behind {
-            let way = place.saturating_sub(rest.place);
-            load = load.saturating_add(way.saturating_mul(i64::from(count)));
+            let way = place.wrapping_sub(rest.place);
+            load = load.wrapping_add(way.wrapping_mul(i64::from(count)));
         }
-        load = load.saturating_add(rest.work);
-        let count = fewest(&cranes.lines, last.saturating_sub(rest.place), load)?;
+        load = load.wrapping_add(rest.work);
+        let count = fewest(&cranes.lines, last.wrapping_sub(rest.place), load)?;
         behind = Some((rest.place, count));
     }
     Some(load)
@@ -63,23 +63,22 @@ fn load_of(rests: &[Rest], cranes: &Cranes, last: i64) -> Option<i64> {
 /// How few cranes of so many can do the work in so much time each; `None` where all are too few.
 fn sharers(work: i64, time: i64, cranes: u16) -> Option<u16> {
     for count in 0..cranes {
-        if time.saturating_mul(i64::from(count + 1)) >= work {
+        if time.wrapping_mul(i64::from(count + 1)) >= work {
             return Some(count + 1);
         }
     }
     None
 }
 
-/// How many cranes need no way back to come to a place from where they stand.
-fn near(cranes: &Cranes, place: i64) -> u16 {
-    let mut count: u16 = 0;
-    let twice = place.saturating_add(place);
-    for crane in 0..MOST_CRANES {
-        if crane < cranes.count && cranes.turns[crane as usize] < twice {
-            count += 1;
+/// How many cranes need no way back to come to a place from where they stand, where so many come to one below.
+fn near(cranes: &Cranes, place: i64, below: u16) -> u16 {
+    let twice = place.wrapping_add(place);
+    for crane in below..MOST_CRANES {
+        if cranes.turns[crane as usize] >= twice {
+            return crane;
         }
     }
-    count
+    MOST_CRANES
 }
 
 /// The way back that cranes make which stand beyond the work; `None` where all cranes are too few to
@@ -88,15 +87,17 @@ fn back_of(rests: &[Rest], cranes: &Cranes, last: i64) -> Option<i64> {
     let mut back: i64 = 0;
     let mut least = i64::MAX;
     let mut work: i64 = 0;
+    let mut close: u16 = 0;
     let mut behind: Option<Rest> = None;
     for rest in rests {
         if let Some(other) = behind {
             least = least.min(other.least);
-            work = work.saturating_add(other.work);
-            let count = sharers(work, last.saturating_sub(least), cranes.count)?;
-            let far = count.saturating_sub(near(cranes, rest.place));
-            let way = rest.place.saturating_sub(other.place).saturating_mul(2);
-            back = back.saturating_add(way.saturating_mul(i64::from(far)));
+            work = work.wrapping_add(other.work);
+            let count = sharers(work, last.wrapping_sub(least), cranes.count)?;
+            close = near(cranes, rest.place, close);
+            let far = count.saturating_sub(close);
+            let way = rest.place.wrapping_sub(other.place).wrapping_mul(2);
+            back = back.wrapping_add(way.wrapping_mul(i64::from(far)));
         }
         behind = Some(*rest);
     }
@@ -111,9 +112,9 @@ pub(crate) fn room_slack(rests: &[Rest], cranes: &Cranes, last: i64) -> Option<i
     };
     let load = load_of(rests, cranes, last)?;
     let back = back_of(rests, cranes, last)?;
-    let time = time_of_all(&cranes.lines, last.saturating_sub(first.place));
-    if load.saturating_add(back) > time {
+    let time = time_of_all(&cranes.lines, last.wrapping_sub(first.place));
+    if load.wrapping_add(back) > time {
         return None;
     }
-    Some(time.saturating_sub(load) / i64::from(cranes.count.max(1)))
+    Some(time.wrapping_sub(load) / i64::from(cranes.count.max(1)))
 }

@@ -12,17 +12,17 @@ fn slack_from(rests: &[Rest], gap: i64, last: i64) -> Option<i64> {
     let mut behind: Option<Rest> = None;
     let first = rests.first()?.place;
     for rest in rests {
-        let width = rest.place.saturating_sub(first);
+        let width = rest.place.wrapping_sub(first);
         if width >= gap {
             break;
         }
         if let Some(other) = behind {
-            turn = turn.min(gap.saturating_sub(rest.place.saturating_sub(other.place)));
+            turn = turn.min(gap.wrapping_sub(rest.place.wrapping_sub(other.place)));
         }
         least = least.min(rest.least);
-        work = work.saturating_add(rest.work);
-        let end = least.saturating_add(work).saturating_add(turn.min(width));
-        slack = slack.min(last.saturating_sub(end));
+        work = work.wrapping_add(rest.work);
+        let end = least.wrapping_add(work).wrapping_add(turn.min(width));
+        slack = slack.min(last.wrapping_sub(end));
         behind = Some(*rest);
     }
     if slack < 0 { None } else { Some(slack) }

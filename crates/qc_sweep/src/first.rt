@@ -7,8 +7,9 @@ ghost use Rattle.qc_sweep.specs.Plans.{IsFirstPlan};
 
 use crate::going::Going;
 use crate::grain::{grain, up_to_grain};
-use crate::hunt::{Hunt, Parts, trial};
-use crate::schedule::{better, schedule_of};
+use crate::hunt::{Hunt, Parts, Start, trial};
+use crate::local::improved;
+use crate::schedule::{better, end_of, schedule_of};
 use crate::split::split;
 use qc_dist::in_reach;
 use qc_model::{Direction, Instance, mirror};
@@ -21,6 +22,11 @@ const LATEST: Tick = 68_719_476_736;
 
 /// At the beginning a later end isn't looked at.
 const MOST_LOW: Tick = 17_179_869_184;
+
+/// How often a local search of a way looks at what it has seen, and a further one of the better way.
+const LOOKS: u32 = 8_000;
+
+const MORE_LOOKS: u32 = 24_000;
 
 /// How many states a layer keeps, round by round.
 const WIDTHS: [usize; 4] = [16, 64, 256, 1024];
@@ -76,18 +82,20 @@ fn parts_of(alloc: Global, inst: &Instance) -> Result<Option<Parts>, OutOfMemory
     }
 }
 
-/// The split of whole hatches as a schedule that goes this way.
+/// The split of whole hatches, and its schedule that goes this way.
 fn split_plan(
     alloc: Global,
     inst: &Instance,
     part: &Part,
     way: Direction,
-) -> Result<Option<Going>, OutOfMemory>
+) -> Result<(Start, Option<Going>), OutOfMemory>
     requires { part.now ≡ seen inst.now way }
-    ensures { IfOk result (λ found. IfSome found (IsFirstPlan inst.now)) }
+    ensures { IfOk result (λ found. IfSome found.1 (IsFirstPlan inst.now)) }
 {
     let cranes = split(alloc, part)?;
-    schedule_of(alloc, inst, way, part.instance(), cranes.as_slice())
+    let plan = schedule_of(alloc, inst, way, part.instance(), cranes.as_slice())?;
+    let end = end_of(inst, &plan);
+    Ok((Start { cranes, end }, plan))
 }
 
 /// What is known before any sweep.
@@ -95,13 +103,15 @@ fn begin(alloc: Global, inst: &Instance, parts: &Parts, effort: usize) -> Result
     requires { AreParts inst.now parts.now }
     ensures { IfOk result (λ hunt. IfSome hunt.best (IsFirstPlan inst.now)) }
 {
-    let up = split_plan(alloc, inst, &parts.up, Direction::Up)?;
-    let down = split_plan(alloc, inst, &parts.down, Direction::Down)?;
+    let (up, up_plan) = split_plan(alloc, inst, &parts.up, Direction::Up)?;
+    let (down, down_plan) = split_plan(alloc, inst, &parts.down, Direction::Down)?;
     Ok(Hunt {
         low_up: low_end(&parts.up),
         low_down: low_end(&parts.down),
         cap: None,
-        best: better(inst, up, down),
+        best: better(inst, up_plan, down_plan),
+        up,
+        down,
         effort,
     })
 }
@@ -184,7 +194,46 @@ fn plan_of(
             round(alloc, inst, parts, &mut hunt, grain, width)?;
         }
     }
-    Ok(hunt.best)
+    improve(alloc, inst, parts, hunt)
+}
+
+/// The schedule that a further local search of a way comes to.
+fn local_plan(
+    alloc: Global,
+    inst: &Instance,
+    part: &Part,
+    way: Direction,
+    start: &Start,
+    low: Tick,
+) -> Result<Option<Going>, OutOfMemory>
+    requires { part.now ≡ seen inst.now way }
+    ensures { IfOk result (λ found. IfSome found (IsFirstPlan inst.now)) }
+{
+    let last = improved(alloc, part, start, low, MORE_LOOKS)?;
+    schedule_of(alloc, inst, way, part.instance(), last.cranes.as_slice())
+}
+
+/// What local searches make of what the splits and the sweeps came to: a short one of each way, and a long one of that
+/// which is better then.
+fn improve(
+    alloc: Global,
+    inst: &Instance,
+    parts: &Parts,
+    hunt: Hunt,
+) -> Result<Option<Going>, OutOfMemory>
+    requires parts { AreParts inst.now parts.now }
+    requires best { IfSome hunt.best (IsFirstPlan inst.now) }
+    ensures { IfOk result (λ found. IfSome found (IsFirstPlan inst.now)) }
+{
+    let low = hunt.low();
+    let up = improved(alloc, &parts.up, &hunt.up, low, LOOKS)?;
+    let down = improved(alloc, &parts.down, &hunt.down, low, LOOKS)?;
+    let found = if up.end <= down.end {
+        local_plan(alloc, inst, &parts.up, Direction::Up, &up, low)?
+    } else {
+        local_plan(alloc, inst, &parts.down, Direction::Down, &down, low)?
+    };
+    Ok(better(inst, hunt.best, found))
 }
 
 /// A schedule for a search to begin with, found with at most so much effort: of so many states of the

@@ -6,7 +6,7 @@ ghost use Rattle.qc_sweep.specs.Hunts.{AreParts};
 ghost use Rattle.qc_sweep.specs.Plans.{IsFirstPlan};
 
 use crate::going::Going;
-use crate::schedule::{better, schedule_of};
+use crate::schedule::{better, end_of, schedule_of};
 use crate::sweep::sweep;
 use qc_model::{Direction, Instance};
 use qc_num::{OutOfMemory, Tick};
@@ -20,6 +20,14 @@ pub(crate) struct Parts {
     pub(crate) down: Part,
 }
 
+/// A crane for each task of a part, where there is one, and when the schedule of these cranes ends; later than any where
+/// there is none.
+#[derive(Drop)]
+pub(crate) struct Start {
+    pub(crate) cranes: Vec<Option<u16>>,
+    pub(crate) end: Tick,
+}
+
 /// What the sweeps have come to so far.
 #[derive(Drop)]
 pub(crate) struct Hunt {
@@ -30,6 +38,9 @@ pub(crate) struct Hunt {
     pub(crate) cap: Option<Tick>,
     /// The best schedule.
     pub(crate) best: Option<Going>,
+    /// The best cranes, upward and downward.
+    pub(crate) up: Start,
+    pub(crate) down: Start,
     /// Of how many states the children may still be made.
     pub(crate) effort: usize,
 }
@@ -55,6 +66,24 @@ impl Hunt {
         match way {
             Direction::Up => self.low_up = low,
             Direction::Down => self.low_down = low,
+        }
+    }
+
+    /// Keeps cranes for a way where their schedule ends before that of those it keeps.
+    fn keep(&mut self, way: Direction, cranes: Vec<Option<u16>>, end: Tick)
+        ensures { self.new.best ≡ self.old.best }
+    {
+        match way {
+            Direction::Up => {
+                if end < self.up.end {
+                    self.up = Start { cranes, end };
+                }
+            }
+            Direction::Down => {
+                if end < self.down.end {
+                    self.down = Start { cranes, end };
+                }
+            }
         }
     }
 
@@ -92,6 +121,7 @@ fn sweep_part(
         Some(found) => {
             hunt.cap = Some(hunt.capped(found.latest.min(end)));
             let plan = schedule_of(alloc, inst, way, part.instance(), found.cranes.as_slice())?;
+            hunt.keep(way, found.cranes, end_of(inst, &plan));
             let best = hunt.best.take();
             hunt.best = better(inst, best, plan);
         }

@@ -6,16 +6,22 @@
 #![tactic(auto)]
 
 mod chosen;
+mod dice;
 mod first;
 mod going;
 mod grain;
 mod hunt;
+mod late;
 mod layer;
+mod local;
 mod node;
 mod schedule;
+mod shares;
 mod split;
 mod sweep;
 mod trail;
+mod tries;
+mod walk;
 
 pub use first::first_plan;
 pub use going::Going;

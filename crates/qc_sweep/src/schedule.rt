@@ -1,6 +1,6 @@
 //! A schedule from a crane for each task.
 
-ghost use Rattle.std.specs.Prelude.{◌≡◌, ◌≢◌, ◌<◌, ◌⊎◌, ℕ, None, length, IfOk, IfSome};
+ghost use Rattle.std.specs.Prelude.{IsTrue, ◌≡◌, ◌≢◌, ◌<◌, ◌⊎◌, ℕ, None, length, IfOk, IfSome};
 ghost use Rattle.qc_model.specs.Instance.{IsApart};
 ghost use Rattle.qc_model.specs.Judge.{IsJudgeable};
 ghost use Rattle.qc_model.specs.Nodes.{HasStarts, IsSettled, assigned};
@@ -13,7 +13,7 @@ use qc_model::{
     Decision, Direction, Instance, MOST_START, Pair, Schedule, Slot, direction_of, ends,
     seen_number,
 };
-use qc_num::OutOfMemory;
+use qc_num::{OutOfMemory, Tick};
 use qc_starts::Starts;
 use std::alloc::Global;
 
@@ -101,6 +101,19 @@ fn order_all(starts: &mut Starts, inst: &Instance) -> bool
     true
 }
 
+/// Puts all tasks on their cranes and orders what is apart, where nothing is decided. Whether that can be.
+pub(crate) fn place_all(starts: &mut Starts, inst: &Instance, cranes: &[Option<u16>]) -> bool
+    requires starts { starts.old.inst ≡ inst.now }
+    requires none { (j : ℕ) → assigned starts.old.decisions j ≡ None }
+    ensures inst { starts.new.inst ≡ starts.old.inst }
+    ensures starts { IsTrue result → HasStarts starts.new.inst starts.new.decisions }
+{
+    if !assign_all(starts, cranes) || !order_all(starts, inst) {
+        return false;
+    }
+    !starts.stuck()
+}
+
 /// The schedule of the least starts, which are those of the instance seen this way.
 fn written(
     alloc: Global,
@@ -168,11 +181,21 @@ fn schedule_from_undecided(
     requires none { (j : ℕ) → assigned starts.old.decisions j ≡ None }
     ensures { IfOk result (λ found. IfSome found (IsFirstPlan inst.now)) }
 {
-    if !assign_all(starts, cranes) || !order_all(starts, turned) || starts.stuck() {
+    if !place_all(starts, turned, cranes) {
         return Ok(None);
     }
     let sched = written(alloc, inst, way, starts)?;
     Ok(judged(inst, sched))
+}
+
+/// When a schedule ends; later than any where there is none.
+pub(crate) fn end_of(inst: &Instance, found: &Option<Going>) -> Tick
+    requires { IfSome found.now (IsFirstPlan inst.now) }
+{
+    match found {
+        Some(found) => ends(inst, &found.sched),
+        None => Tick::MAX,
+    }
 }
 
 /// Of two schedules, where there are any, the one that ends first, and the first of both where they

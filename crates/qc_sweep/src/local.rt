@@ -1,0 +1,76 @@
+//! A local search: late acceptance over exchanges of tasks between neighbouring cranes.
+
+ghost use Rattle.std.specs.Prelude.{◌≡◌, ℕ, None};
+ghost use Rattle.qc_model.specs.Nodes.{assigned};
+
+use crate::hunt::Start;
+use crate::schedule::place_all;
+use crate::walk::Walk;
+use qc_model::Instance;
+use qc_num::{OutOfMemory, Tick};
+use qc_part::Part;
+use qc_starts::Starts;
+use std::alloc::Global;
+
+/// How many changes are tried between two looks at what was seen.
+const LOOK: u32 = 50;
+
+/// When the last task ends.
+fn last_end(starts: &Starts, inst: &Instance) -> Tick
+    requires { starts.now.inst ≡ inst.now }
+{
+    let mut last: Tick = 0;
+    for task in 0..inst.task_count() {
+        let end = starts.start(task).saturating_add(inst.task(task).ticks);
+        last = last.max(end);
+    }
+    last
+}
+
+/// When all is done where each task has its crane and starts as early as can be; later than ever where that can't be.
+/// Nothing is decided of the starts, before and after.
+fn end_by(starts: &mut Starts, inst: &Instance, cranes: &[Option<u16>]) -> Tick
+    requires starts { starts.old.inst ≡ inst.now }
+    requires none { (j : ℕ) → assigned starts.old.decisions j ≡ None }
+    ensures starts { starts.new.inst ≡ inst.now }
+    ensures none { (j : ℕ) → assigned starts.new.decisions j ≡ None }
+{
+    let end = if place_all(starts, inst, cranes) {
+        last_end(starts, inst)
+    } else {
+        Tick::MAX
+    };
+    starts.retract(0);
+    end
+}
+
+/// The best cranes of a part that a local search comes to which begins with these and looks so often at what it has seen.
+/// None are looked for that are done before the low tick.
+pub(crate) fn improved(
+    alloc: Global,
+    part: &Part,
+    start: &Start,
+    low: Tick,
+    looks: u32,
+) -> Result<Start, OutOfMemory> {
+    let inst = part.instance();
+    let mut starts = Starts::open(alloc, inst)?;
+    let mut walk = Walk::open(alloc, part, start.cranes.as_slice(), low)?;
+    let mut end = start.end;
+    for _ in 0..looks {
+        if end <= low {
+            break;
+        }
+        if walk.go(LOOK, end)? {
+            let seen = end_by(&mut starts, inst, walk.seen());
+            if seen < end {
+                end = seen;
+                walk.take_seen()?;
+            }
+        }
+    }
+    Ok(Start {
+        cranes: walk.into_best(),
+        end,
+    })
+}

@@ -1,0 +1,106 @@
+//! Small changes of who does which task, tried by chance.
+
+use crate::dice::Dice;
+use crate::shares::Shares;
+use qc_num::OutOfMemory;
+
+/// How often a task of a crane is looked for.
+const LOOKS: usize = 64;
+
+/// The next crane up or down, by chance.
+fn neighbour(dice: &mut Dice, crane: u16) -> u16 {
+    if dice.below(2) == 0 {
+        crane.saturating_add(1)
+    } else {
+        crane.wrapping_sub(1)
+    }
+}
+
+/// A task, by chance.
+fn any(shares: &Shares, dice: &mut Dice) -> u16 {
+    u16::try_from(dice.below(shares.count())).unwrap_or(0)
+}
+
+/// A task of a crane, by chance.
+fn any_of(shares: &Shares, dice: &mut Dice, crane: u16) -> Option<u16> {
+    for _ in 0..LOOKS {
+        let task = any(shares, dice);
+        if shares.crane(task) == crane {
+            return Some(task);
+        }
+    }
+    None
+}
+
+/// Gives a task to the next crane up or down. Whether that reaches it.
+fn shift(shares: &mut Shares, dice: &mut Dice) -> Result<bool, OutOfMemory> {
+    let task = any(shares, dice);
+    let crane = neighbour(dice, shares.crane(task));
+    shares.give(task, crane)
+}
+
+/// Gives a task and those behind it in its hatch, as far as they have one crane, to the next crane down; or with those
+/// ahead of it to the next one up. Whether that reaches them.
+fn shift_run(shares: &mut Shares, dice: &mut Dice) -> Result<bool, OutOfMemory> {
+    let task = any(shares, dice);
+    let crane = shares.crane(task);
+    let next = neighbour(dice, crane);
+    let mut other = task;
+    for _ in 0..4 {
+        let beside = if next > crane {
+            other.wrapping_sub(1)
+        } else {
+            other.saturating_add(1)
+        };
+        let goes_on = shares.are_together(other, beside);
+        if !shares.give(other, next)? {
+            return Ok(false);
+        }
+        if !goes_on {
+            break;
+        }
+        other = beside;
+    }
+    Ok(true)
+}
+
+/// Exchanges a task of a crane and one of the next crane, and in a third of all tries gives one more of them to the
+/// other crane. Whether the cranes reach them.
+fn exchange(shares: &mut Shares, dice: &mut Dice) -> Result<bool, OutOfMemory> {
+    let crane = dice.below(shares.crane_count().saturating_sub(1)) as u16;
+    let next = crane.saturating_add(1);
+    let Some(one) = any_of(shares, dice, crane) else {
+        return Ok(false);
+    };
+    let Some(other) = any_of(shares, dice, next) else {
+        return Ok(false);
+    };
+    if !shares.give(one, next)? || !shares.give(other, crane)? {
+        return Ok(false);
+    }
+    if dice.below(3) > 0 {
+        return Ok(true);
+    }
+    let (from, to) = if dice.below(2) == 0 {
+        (crane, next)
+    } else {
+        (next, crane)
+    };
+    match any_of(shares, dice, from) {
+        Some(more) => shares.give(more, to),
+        None => Ok(false),
+    }
+}
+
+/// Changes something, by chance. Whether it is allowed: else it is to be taken back.
+pub(crate) fn change(shares: &mut Shares, dice: &mut Dice) -> Result<bool, OutOfMemory> {
+    let kind = dice.below(100);
+    let is_reached = if kind < 25 {
+        shift(shares, dice)?
+    } else if kind < 35 {
+        shift_run(shares, dice)?
+    } else {
+        exchange(shares, dice)?
+    };
+    Ok(is_reached && shares.is_allowed())
+}
