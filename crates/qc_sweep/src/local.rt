@@ -1,7 +1,7 @@
 //! A local search: late acceptance over exchanges of tasks between neighbouring cranes.
 
 ghost use Rattle.std.specs.Prelude.{◌≡◌, ℕ, None};
-ghost use Rattle.qc_model.specs.Nodes.{assigned};
+ghost use Rattle.qc_model.specs.Nodes.{HasStarts, assigned};
 
 use crate::hunt::Start;
 use crate::schedule::place_all;
@@ -17,7 +17,8 @@ const LOOK: u32 = 50;
 
 /// When the last task ends.
 fn last_end(starts: &Starts, inst: &Instance) -> Tick
-    requires { starts.now.inst ≡ inst.now }
+    requires inst { starts.now.inst ≡ inst.now }
+    requires starts { HasStarts starts.now.inst starts.now.decisions }
 {
     let mut last: Tick = 0;
     for task in 0..inst.task_count() {

@@ -67,7 +67,7 @@ fn shift_run(shares: &mut Shares, dice: &mut Dice) -> Result<bool, OutOfMemory> 
 /// Exchanges a task of a crane and one of the next crane, and in a third of all tries gives one more of them to the
 /// other crane. Whether the cranes reach them.
 fn exchange(shares: &mut Shares, dice: &mut Dice) -> Result<bool, OutOfMemory> {
-    let crane = dice.below(shares.crane_count().saturating_sub(1)) as u16;
+    let crane = u16::try_from(dice.below(shares.crane_count().saturating_sub(1))).unwrap_or(0);
     let next = crane.saturating_add(1);
     let Some(one) = any_of(shares, dice, crane) else {
         return Ok(false);
