@@ -9,7 +9,7 @@ use Rattle.qc_num.specs.declared.bound.Bound.TheVariants.{Least, Never}
 use Rattle.qc_num.specs.Bounds.{IsAtMost, least_bound}
 use Rattle.qc_num.specs.Paths.{HasRoom}
 use Rattle.smallvec.specs.SmallVec.{SmallVec}
-use Rattle.qc_dist.specs.Node.{Node}
+use Rattle.qc_dist.specs.Node.{Node as StartsNode}
 use Rattle.qc_model.specs.declared.decision.Decision.{Decision}
 use Rattle.qc_model.specs.declared.direction.Direction.{Direction}
 use Rattle.qc_model.specs.declared.direction.Direction.TheVariants.{Up, Down}
@@ -158,7 +158,7 @@ left_by left (Ok x) = left x
 left_by left (Err fault) = []
 
 -- a node at which a line is to be written
-pub record IsMet (node : Node) (now : Progress) : Type 0 where
+pub record IsMet (node : StartsNode) (now : Progress) : Type 0 where
   pub valid : Valid node.inst
   pub in_reach : IsInReach node.inst node.decisions
   pub count : length now.incumbent ≡ length node.inst.tasks
@@ -167,7 +167,7 @@ pub record IsMet (node : Node) (now : Progress) : Type 0 where
 
 -- the line of a node was written, or a front part of it. Behind it comes its first child, which is answered, if it has
 -- children; with each line fewer may still come
-pub record Visits (before after : View) (node : Node) (way : Direction) (old new : Progress)
+pub record Visits (before after : View) (node : StartsNode) (way : Direction) (old new : Progress)
     (result : Result (Option Decision) WriteFault) : Type 0 where
   pub line : WritesNodes [] before after node.inst way (from_node node.inst node.decisions)
       (left_by (from_child node.inst node.decisions) result) old new (emptied result)
