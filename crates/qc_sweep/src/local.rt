@@ -45,6 +45,29 @@ fn end_by(starts: &mut Starts, inst: &Instance, cranes: &[Option<u16>]) -> Tick
     end
 }
 
+/// Tries changes, and looks at the best cranes that were seen: when the best of all are done now.
+fn look(
+    walk: &mut Walk,
+    starts: &mut Starts,
+    inst: &Instance,
+    end: Tick,
+) -> Result<Tick, OutOfMemory>
+    requires starts { starts.old.inst ≡ inst.now }
+    requires none { (j : ℕ) → assigned starts.old.decisions j ≡ None }
+    ensures starts { starts.new.inst ≡ inst.now }
+    ensures none { (j : ℕ) → assigned starts.new.decisions j ≡ None }
+{
+    if !walk.go(LOOK, end)? {
+        return Ok(end);
+    }
+    let seen = end_by(starts, inst, walk.seen());
+    if seen < end {
+        walk.take_seen()?;
+        return Ok(seen);
+    }
+    Ok(end)
+}
+
 /// The best cranes of a part that a local search comes to which begins with these and looks so often at what it has seen.
 /// None are looked for that are done before the low tick.
 pub(crate) fn improved(
@@ -62,13 +85,7 @@ pub(crate) fn improved(
         if end <= low {
             break;
         }
-        if walk.go(LOOK, end)? {
-            let seen = end_by(&mut starts, inst, walk.seen());
-            if seen < end {
-                end = seen;
-                walk.take_seen()?;
-            }
-        }
+        end = look(&mut walk, &mut starts, inst, end)?;
     }
     Ok(Start {
         cranes: walk.into_best(),
