@@ -1,5 +1,5 @@
-//! A first plan for the search: narrow sweeps over the pairs of a hatch and a crane, and splits of
-//! whole hatches.
+//! A first plan for the search: narrow sweeps over the pairs of a hatch and a crane, splits of whole
+//! hatches, and a local search from the best of these.
 //!
 //! A schedule that `first_plan` gives was judged: it goes one way, that which it is given with, and ends
 //! at a tick of at most 12 digits. How it is found, and how good it is, is promised by nothing.
