@@ -73,7 +73,7 @@ def ran(program, words, files):
 
 def differences(program, mistake):
     _, base, words, changes, status, report, lines = mistake
-    words = words.split()
+    words = words.split(" ") if words else []
     files = files_of(base, changes)
     got, out, err, left = ran(program, words, files)
     if got != status:

@@ -322,7 +322,7 @@ def output():
                 os.close(reader)
                 ran = room.run(words, stdout=writer)
                 os.close(writer)
-            expect(f"{name}, standard output is {how}", ran, 4, None,
+            expect(f"{name}, standard output is {how}", ran, 141 if "pipe" in how else 4, None,
                    all_files_whole={file: room.read(file) for file in older} == older, no_part_left=not room.parts())
     room = Room()
     ran = room.run(PLANNED, before=lambda: (os.close(0), os.close(1), os.close(2)), stdout=None)

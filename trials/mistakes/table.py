@@ -150,6 +150,10 @@ MISTAKES = [
     ship("a crane far ahead", [("bay = 1\n", "bay = -40\n")], "task 1-DD 1 330",
          ["qc: note: ship.toml, line 20: the first [[crane]] stands at crane bay -40, 41 bays from any hatch; bay counts the "
           "hatches of the list, 1 to 14, and not the bays of the ship"], status=0),
+    ship("bay of the ship for a decimetre", [("bay = 400\n", "bay = 11\n")], "task 2-DD 400 4000",
+         ["qc: note: ship.toml, line 14: the first [[crane]] stands at decimetre 11, 389 decimetres from any hatch; bay counts "
+          "decimetres, as places does, and not the bays of the ship"], base="places", status=0),
+    ship("a crane far ahead in decimetres", [("bay = 400\n", "bay = 12\n")], "task 2-DD 400 4000", [], base="places", status=0),
     ship("clear in metres", [("clear = 270\n", "clear = 27\n")], "task 2-DD 400 4000",
          ["qc: note: ship.toml, line 7: clear = 27 lets cranes come as near as 27 decimetres; 27 metres are clear = 270"],
          base="places", status=0),
@@ -662,6 +666,16 @@ MISTAKES = [
     usage("an option of another command", CHECK + " --nodes 5",
           ['qc: check has no option "--nodes"; a file of that name is written ./--nodes']),
     usage("nodes without a number", PLAN + " --nodes", ["qc: behind --nodes its value is missing"]),
+    usage("a number for nodes that is an option", PLAN + " --nodes --from own.csv",
+          ["qc: behind --nodes its value is missing"]),
+    usage("an option for OWN", PLAN + " --from --nodes", ["qc: behind --from its value is missing"]),
+    usage("an option with its value for OWN", PLAN + " --from --nodes 3", ["qc: behind --from its value is missing"]),
+    usage("a word with a dash for OWN", PLAN + " --from -x", ["qc: behind --from its value is missing"]),
+    usage("a word with a dash for OWN, to and fro", "free ship.toml stow.csv new.csv newtree.txt --from -x",
+          ["qc: behind --from its value is missing"]),
+    usage("branchings below 0", PLAN + " --nodes -5",
+          ['qc: N behind --nodes can\'t be "-5": it is a whole number from 0 to 100000, in digits alone and without a '
+           'leading 0']),
     usage("nodes twice", PLAN + " --nodes 1 --nodes 2", ["qc: --nodes stands twice"]),
     usage("too many branchings", PLAN + " --nodes 1000000",
           ['qc: N behind --nodes can\'t be "1000000": it is a whole number from 0 to 100000, in digits alone and without a '
@@ -673,6 +687,9 @@ MISTAKES = [
           ['qc: PLAN and TREE are the same file "new.csv": plan needs four different names']),
     usage("the plan over its own", PLAN + " --from new.csv",
           ['qc: PLAN and OWN behind --from are the same file "new.csv": OWN is only read, so name another file for PLAN']),
+    usage("the ship file for OWN", PLAN + " --from ship.toml",
+          ['qc: SHIP and OWN behind --from are the same file "ship.toml": OWN is a plan to begin with, so name another file '
+           'for OWN']),
     usage("too many hatches to make", "make 1 61 2",
           ['qc: HATCHES can\'t be "61": it is a whole number from 1 to 60, in digits alone and without a leading 0']),
     # ---- files that can't be read or written
@@ -685,6 +702,9 @@ MISTAKES = [
      ["qc: tree.txt: this file, TREE, isn't there or can't be read", "qc: the system said: No such file or directory (os error 2)"]),
     ("a folder that isn't there", "first", "plan ship.toml stow.csv out/plan.csv newtree.txt", {}, 4, "WriteFault",
      ["qc: out/plan.csv: this file couldn't be made or written",
+      "qc: the system said: No such file or directory (os error 2)"]),
+    ("a name that steers a terminal", "first", "plan ship.toml stow.csv out/\x1b[2J\np.csv newtree.txt", {}, 4, "WriteFault",
+     ["qc: out/?[2J?p.csv: this file couldn't be made or written",
       "qc: the system said: No such file or directory (os error 2)"]),
     ("the plan over the list", "first", "plan ship.toml stow.csv ./stow.csv newtree.txt", {}, 4, "WriteFault",
      ["qc: ./stow.csv: this file couldn't be made or written",
@@ -713,6 +733,14 @@ MISTAKES = [
          ["qc: stow.csv: the file has bytes of 0 and is no text: save it as UTF-8; a stowage list is wanted"], base="first"),
     ("a list of a byte too many", "first", TASKS, {"stow.csv": b"x" * 8388609}, 15, "TooLarge stow",
      ["qc: stow.csv: this file, STOW, has more than 8388608 bytes, and may have no more"]),
+    ("a device for SHIP", "first", "tasks /dev/zero stow.csv", {}, 15, "TooLarge ship",
+     ["qc: /dev/zero: this file, SHIP, has more than 8388608 bytes, and may have no more"]),
+    ("a device for STOW", "first", "tasks ship.toml /dev/zero", {}, 15, "TooLarge stow",
+     ["qc: /dev/zero: this file, STOW, has more than 8388608 bytes, and may have no more"]),
+    ("a device for LOG", "places", "watch ship.toml /dev/zero", {}, 15, "TooLarge log",
+     ["qc: /dev/zero: this file, LOG, has more than 8388608 bytes, and may have no more"]),
+    ("a device for TREE", "first", "check ship.toml stow.csv - /dev/zero", {}, 7, "BadTree LineTooLong 1",
+     ["qc: /dev/zero: this file, TREE, has the fault that was reported, and can't be read again to show it"]),
     ship("many keys that aren't read", [("margin = 1\n", "margin = 1\n" + "".join(f"zz{n:02} = 1\n" for n in range(21)))],
          "task 2-DD 1 20",
          [f'qc: note: ship.toml, line {4 + n}: the key "zz{n:02}" is no key of the ship and isn\'t read' for n in range(20)]

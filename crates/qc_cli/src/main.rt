@@ -13,6 +13,10 @@ use std::process::ExitCode;
 use std::rt::{Env, Files};
 use std::{fs, io};
 
+/// The exit status where who reads standard output has closed it: as a shell tells of a tool that ends by the signal, of
+/// number 13, which the system raises then. The runtime holds that back, and raises none itself.
+const CLOSED_PIPE: u8 = 128 + 13;
+
 /// The root folder, opened for reading as often as there are standard descriptors. Those that are
 /// closed are taken by it, so that no file that is opened later is standard output.
 fn standard_descriptors_held<R: Files>(rt: &R) -> io::Result<[R::File; 3]> {
@@ -49,13 +53,22 @@ fn run_over<S: Shelf, K: Sink, R: Eprint + AllocGlobal>(
     (ended, told.into_shelf())
 }
 
-/// The status of a run with these words over the files of the system and standard output. What is to be mended is said
-/// on standard error, unless `-q` stands first, and where that is a terminal, how far the search has come.
+/// Whether who reads standard output has closed it, by what the system said of it.
+fn is_closed(printing: Option<io::Error>) -> bool {
+    match printing {
+        Some(why) => why.kind() == io::ErrorKind::BrokenPipe,
+        None => false,
+    }
+}
+
+/// The status of a run with these words over the files of the system and standard output, and whether who reads that has
+/// closed it. What is to be mended is said on standard error, unless `-q` stands first or nobody reads the report to its
+/// end, and where that is a terminal, how far the search has come.
 fn status_of<R: Files + Print + Eprint + AllocGlobal>(
     rt: &R,
     words: &[String],
     is_terminal: bool,
-) -> Result<Status, OutOfMemory>
+) -> Result<(Status, bool), OutOfMemory>
 where
     R::File: AsFd,
 {
@@ -67,20 +80,27 @@ where
         ended.status = Status::WriteFault;
     }
     let status = ended.status;
-    if !is_quiet {
-        say_after(rt, words, &ended, &mut shelf, out.to().why());
+    let printing = out.to().why();
+    let is_closed = is_closed(printing);
+    if !is_quiet && !is_closed {
+        say_after(rt, words, &ended, &mut shelf, printing);
     }
     drop(shelf);
     drop(out);
-    Ok(status)
+    Ok((status, is_closed))
 }
 
-/// Runs the program. The status of the run is the program's own.
+/// Runs the program. The status of the run is the program's own, but where who reads standard output has closed it.
 fn main(rt: HostRuntime) -> ExitCode {
     let Ok(_held) = standard_descriptors_held(&rt) else {
         return ExitCode::from(Status::WriteFault.code());
     };
     let is_terminal = rt.stderr().is_terminal();
-    let status = words_or_none(&rt).and_then(|words| status_of(&rt, words.as_slice(), is_terminal));
-    ExitCode::from(status.unwrap_or(Status::OutOfMemory).code())
+    let ended = words_or_none(&rt).and_then(|words| status_of(&rt, words.as_slice(), is_terminal));
+    let (status, is_closed) = ended.unwrap_or((Status::OutOfMemory, false));
+    ExitCode::from(if is_closed {
+        CLOSED_PIPE
+    } else {
+        status.code()
+    })
 }

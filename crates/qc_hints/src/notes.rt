@@ -1,6 +1,6 @@
 //! Notes: what was taken as it stands and likely isn't meant so.
 
-use crate::facts::{Facts, facts_of};
+use crate::facts::{Facts, facts_of, whole};
 use crate::keys::{is_known, keys_of};
 use crate::ordinals::ordinal;
 use qc_num::OutOfMemory;
@@ -13,6 +13,9 @@ const MOST_KEYS: usize = 20;
 
 /// How many bays from a hatch a crane may stand without a note.
 const FAR: i64 = 10;
+
+/// How many decimetres from a hatch a crane may stand at what is a bay of the ship without a note.
+const FAR_OFF: i64 = 100;
 
 /// Less than this is rather a distance in metres than in decimetres.
 const LEAST_CLEAR: i64 = 100;
@@ -112,35 +115,69 @@ fn say_cranes(page: &mut Page, facts: &Facts<'_>) {
     }
 }
 
-/// Says that a crane stands far from any hatch, where places are counted as hatches.
+/// Where the first and the last hatch are, as `bay` counts.
+fn ends_of(facts: &Facts<'_>) -> (i64, i64) {
+    if facts.in_decimetres() {
+        let places = facts.elements("places");
+        (
+            whole(places.first()).unwrap_or(0),
+            whole(places.last()).unwrap_or(0),
+        )
+    } else {
+        let count = facts.elements("hatches").len();
+        (1, i64::try_from(count).unwrap_or(0))
+    }
+}
+
+/// Whether a number is that of a bay of the ship.
+fn is_bay_of_ship(facts: &Facts<'_>, bay: i64) -> bool {
+    let last = whole(facts.elements("hatches").last()).unwrap_or(0);
+    1 <= bay && bay <= last.saturating_add(1)
+}
+
+/// Says that a crane stands far from any hatch; where places are in decimetres, only at what is a bay of the ship.
 fn say_far(page: &mut Page, facts: &Facts<'_>, crane: u32) {
-    let (Some(bay), false) = (facts.crane_number(crane, "bay"), facts.in_decimetres()) else {
+    let Some(bay) = facts.crane_number(crane, "bay") else {
         return;
     };
-    let last = i64::try_from(facts.elements("hatches").len()).unwrap_or(0);
+    let (first, last) = ends_of(facts);
     let off = if bay > last {
         bay.saturating_sub(last)
     } else {
-        1i64.saturating_sub(bay)
+        first.saturating_sub(bay)
     };
-    if off > FAR {
+    let is_said = if facts.in_decimetres() {
+        off > FAR_OFF && is_bay_of_ship(facts, bay)
+    } else {
+        off > FAR
+    };
+    if is_said {
         say_off(page, facts, crane, bay, last, off)
     }
 }
 
-/// Says that a crane stands at a bay that is so far from any hatch, of which the last has this number.
+/// Says that a crane stands so far from any hatch, of which the last is there, as `bay` counts.
 fn say_off(page: &mut Page, facts: &Facts<'_>, crane: u32, bay: i64, last: i64, off: i64) {
+    let in_decimetres = facts.in_decimetres();
     page.note(facts.place(crane, "bay"))
         .text("the ")
         .text(ordinal(crane))
-        .text(" [[crane]] stands at crane bay ")
+        .text(" [[crane]] stands at ")
+        .text(if in_decimetres {
+            "decimetre "
+        } else {
+            "crane bay "
+        })
         .number(bay)
         .text(", ")
-        .rail(off.unsigned_abs(), false)
-        .text(" from any hatch; bay counts the hatches of the list, 1 to ")
-        .number(last)
-        .text(", and not the bays of the ship")
-        .end()
+        .rail(off.unsigned_abs(), in_decimetres)
+        .text(" from any hatch; bay counts ");
+    if in_decimetres {
+        page.text("decimetres, as places does");
+    } else {
+        page.text("the hatches of the list, 1 to ").number(last);
+    }
+    page.text(", and not the bays of the ship").end()
 }
 
 /// Says which of two keys isn't read beside the other.

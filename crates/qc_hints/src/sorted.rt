@@ -15,7 +15,7 @@ pub(crate) struct Sorted<'a> {
     pub(crate) operands: Vec<&'a str>,
     /// The first word that is an option and can't be one.
     pub(crate) strange: Option<&'a str>,
-    /// The option that has no value behind it.
+    /// The option that has no value behind it. No word behind it is told apart then.
     pub(crate) open: Option<&'a str>,
     /// The option that stands twice.
     pub(crate) twice: Option<&'a str>,
@@ -72,6 +72,15 @@ impl<'a> Sorted<'a> {
         }
     }
 
+    /// Whether an option needs a value where this word stands, that can't be one: it is an option, but for what may be
+    /// meant as a number.
+    fn lacks_value(&self, word: &str) -> bool {
+        match self.open {
+            Some(option) => !is_operand(word) && (option == "--from" || word.starts_with("--")),
+            None => false,
+        }
+    }
+
     /// Takes the next word.
     fn take(&mut self, word: &'a str) -> Result<(), OutOfMemory> {
         if let Some(option) = self.open {
@@ -95,6 +104,9 @@ pub(crate) fn told_apart<'a>(
 ) -> Result<Sorted<'a>, OutOfMemory> {
     let mut sorted = Sorted::new(alloc, has_options);
     for word in words {
+        if sorted.lacks_value(word.as_str()) {
+            break;
+        }
         sorted.take(word.as_str())?;
     }
     Ok(sorted)

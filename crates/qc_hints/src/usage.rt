@@ -6,6 +6,9 @@ use qc_num::{OutOfMemory, plain_number};
 use qc_page::{Page, nearest};
 use std::alloc::Global;
 
+/// How many operands of a command that plans are read: SHIP and STOW, which stand first.
+const INPUTS: usize = 2;
+
 /// Whether a value is a number that may stand there, in plain decimal.
 fn is_between(value: &str, least: u32, most: u32) -> bool {
     match plain_number(value.as_bytes(), 10) {
@@ -47,7 +50,7 @@ fn say_if_equal(page: &mut Page, form: &Form, sorted: &Sorted<'_>, at: usize, na
     if let Some(from) = sorted.from
         && from == name
     {
-        say_from(page, this, name);
+        say_from(page, this, at < INPUTS, name);
     } else if let Some(later) = equal_behind(sorted, at, name) {
         say_same(page, form, this, form.operand(later), name);
     } else {
@@ -70,14 +73,21 @@ fn say_same(page: &mut Page, form: &Form, this: &str, other: &str, name: &str) {
         .end()
 }
 
-/// Says that an operand is the name behind `--from`.
-fn say_from(page: &mut Page, operand: &str, name: &str) {
+/// Says that an operand, which may be one that is read, is the name behind `--from`.
+fn say_from(page: &mut Page, operand: &str, is_read: bool, name: &str) {
+    let (what, other) = if is_read {
+        ("a plan to begin with", "OWN")
+    } else {
+        ("only read", operand)
+    };
     page.line()
         .text(operand)
         .text(" and OWN behind --from are the same file \"")
         .word(name)
-        .text("\": OWN is only read, so name another file for ")
-        .text(operand)
+        .text("\": OWN is ")
+        .text(what)
+        .text(", so name another file for ")
+        .text(other)
         .end()
 }
 
@@ -187,14 +197,14 @@ fn say_no_option(page: &mut Page, form: &Form, word: &str) {
 
 /// Says which word of a command's options is wrong, and answers whether one is.
 fn say_options(page: &mut Page, form: &Form, sorted: &Sorted<'_>) -> bool {
-    if let Some(word) = sorted.strange {
-        say_strange(page, form, word);
-    } else if let Some(option) = sorted.open {
+    if let Some(option) = sorted.open {
         page.line()
             .text("behind ")
             .text(option)
             .text(" its value is missing")
             .end();
+    } else if let Some(word) = sorted.strange {
+        say_strange(page, form, word);
     } else if let Some(option) = sorted.twice {
         page.line().text(option).text(" stands twice").end();
     } else {

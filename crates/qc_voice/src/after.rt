@@ -3,10 +3,10 @@ ghost use Rattle.std.specs.Prelude.{None};
 ghost use Rattle.qc_io.specs.Outside.{sink_view};
 
 use crate::voice::explain;
-use qc_io::{Failed, Sink, fault};
+use qc_io::{Failed, Sink, fault, put_all};
+use qc_page::Page;
 use qc_run::{Ended, Status};
 use qc_system::FileShelf;
-use std::fmt::Display;
 use std::io::{self, ErrorKind};
 use std::os::fd::AsFd;
 use std::rt::Files;
@@ -30,44 +30,43 @@ impl<R: Eprint> Sink for Voice<'_, R> {
     }
 }
 
-/// Says a line, where there is memory for it.
-fn say<R: Eprint + AllocGlobal, D: Display + Drop>(rt: &R, what: D) {
-    if let Ok(line) = format!(in rt.alloc(); "qc: {what}\n") {
-        let _ = rt.eprint(line.as_str());
-    }
-}
-
-/// Says what the system said.
-fn say_why<R: Eprint + AllocGlobal>(rt: &R, why: io::Error) {
+/// Says what the system said, where there is memory for it.
+fn say_why(page: &mut Page, why: io::Error) {
     if why.kind() == ErrorKind::ResourceBusy {
-        say(
-            rt,
-            "it is a file that this call has read or made, and no such file is written over",
-        );
-    } else {
-        say(rt, format_args!("the system said: {why}"));
+        page.line()
+            .text("it is a file that this call has read or made, and no such file is written over")
+            .end()
+    } else if let Ok(said) = format!(in page.alloc(); "{why}") {
+        page.line()
+            .text("the system said: ")
+            .text(said.as_str())
+            .end()
     }
 }
 
 /// Says what couldn't be written, and what the system said.
-fn say_unwritten<R: Eprint + AllocGlobal>(
-    rt: &R,
+fn say_unwritten(
+    page: &mut Page,
     trouble: Option<(String, io::Error)>,
     printing: Option<io::Error>,
 ) {
     if let Some(why) = printing {
-        say(rt, "the report couldn't be written whole");
-        return say_why(rt, why);
+        page.line()
+            .text("the report couldn't be written whole")
+            .end();
+        return say_why(page, why);
     }
-    let Some(trouble) = trouble else {
-        return say(rt, "a file or the report couldn't be written");
+    let Some((name, why)) = trouble else {
+        return page
+            .line()
+            .text("a file or the report couldn't be written")
+            .end();
     };
-    let (name, why) = trouble;
-    say(
-        rt,
-        format_args!("{name}: this file couldn't be made or written"),
-    );
-    say_why(rt, why);
+    page.line()
+        .word(name.as_str())
+        .text(": this file couldn't be made or written")
+        .end();
+    say_why(page, why)
 }
 
 /// Says what is to be mended after a run with these words that came to this, and what is worth a note. `printing` is what
@@ -83,20 +82,20 @@ where
     R::File: AsFd,
 {
     let trouble = shelf.trouble();
+    let mut voice = Voice { rt, faults: 0 };
+    let mut page = Page::new(rt.alloc());
     if ended.status == Status::WriteFault {
-        return say_unwritten(rt, trouble, printing);
-    }
-    shelf.read_again();
-    explain(
-        rt.alloc(),
-        words,
-        ended,
-        shelf,
-        &mut Voice { rt, faults: 0 },
-    );
-    if ended.status == Status::ReadFault {
-        if let Some((_, why)) = trouble {
-            say_why(rt, why);
+        say_unwritten(&mut page, trouble, printing);
+    } else {
+        shelf.read_again();
+        explain(rt.alloc(), words, ended, shelf, &mut voice);
+        if ended.status == Status::ReadFault
+            && let Some((_, why)) = trouble
+        {
+            say_why(&mut page, why);
         }
+    }
+    if let Some(lines) = page.lines() {
+        let _ = put_all(&mut voice, lines);
     }
 }

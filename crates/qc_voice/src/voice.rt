@@ -31,6 +31,9 @@ fn word_of(file: Input) -> &'static str {
     }
 }
 
+/// What is said of a file that can't be read again to show its fault.
+const FAULT_UNSHOWN: &str = ", has the fault that was reported, and can't be read again to show it";
+
 /// Says which file couldn't be read, or is too large, by its word in the usage text and its name.
 fn say_unread(page: &mut Page, inputs: &Inputs<'_>, file: Input, why: &str) {
     if let Some(name) = inputs.name_of(file) {
@@ -43,11 +46,28 @@ fn say_unread(page: &mut Page, inputs: &Inputs<'_>, file: Input, why: &str) {
     }
 }
 
+/// The file in which the fault is that was reported, read again with its name. That it can't be read again, as a pipe
+/// can't, is said.
+fn faulty<'a, S: Shelf>(
+    page: &mut Page,
+    shelf: &mut S,
+    inputs: &Inputs<'a>,
+    file: Input,
+) -> Option<(&'a str, Bytes)>
+    ensures { LeavesFiles (S.Sink.view shelf.old) (S.Sink.view shelf.new) }
+{
+    let found = again(page, shelf, inputs.name_of(file));
+    if found.is_none() {
+        say_unread(page, inputs, file, FAULT_UNSHOWN);
+    }
+    found
+}
+
 /// Says what is wrong with the ship file.
 fn say_bad_ship<S: Shelf>(page: &mut Page, shelf: &mut S, inputs: &Inputs<'_>, fault: ShipFault)
     ensures { LeavesFiles (S.Sink.view shelf.old) (S.Sink.view shelf.new) }
 {
-    if let Some((name, ship)) = again(page, shelf, Some(inputs.ship)) {
+    if let Some((name, ship)) = faulty(page, shelf, inputs, Input::Ship) {
         say_ship(page, name, ship.as_slice(), fault)
     }
 }
@@ -56,10 +76,10 @@ fn say_bad_ship<S: Shelf>(page: &mut Page, shelf: &mut S, inputs: &Inputs<'_>, f
 fn say_bad_stow<S: Shelf>(page: &mut Page, shelf: &mut S, inputs: &Inputs<'_>, fault: StowFault)
     ensures { LeavesFiles (S.Sink.view shelf.old) (S.Sink.view shelf.new) }
 {
-    let Some((_, ship)) = again(page, shelf, Some(inputs.ship)) else {
+    let Some((name, list)) = faulty(page, shelf, inputs, Input::Stow) else {
         return;
     };
-    let Some((name, list)) = again(page, shelf, inputs.stow) else {
+    let Some((_, ship)) = again(page, shelf, Some(inputs.ship)) else {
         return;
     };
     if let Some(ship) = ship_of(page, ship.as_slice()) {
@@ -82,10 +102,15 @@ fn plan_again<'a, S: Shelf>(
 fn say_bad_plan<S: Shelf>(page: &mut Page, shelf: &mut S, inputs: &Inputs<'_>, fault: PlanFault)
     ensures { LeavesFiles (S.Sink.view shelf.old) (S.Sink.view shelf.new) }
 {
-    let Some((_, ship)) = again(page, shelf, Some(inputs.ship)) else {
+    let file = if inputs.plan.is_some() {
+        Input::Plan
+    } else {
+        Input::Own
+    };
+    let Some((name, plan)) = faulty(page, shelf, inputs, file) else {
         return;
     };
-    let Some((name, plan)) = plan_again(page, shelf, inputs) else {
+    let Some((_, ship)) = again(page, shelf, Some(inputs.ship)) else {
         return;
     };
     if let Some(inst) = instance_of(page, shelf, inputs, ship.as_slice()) {
@@ -97,7 +122,7 @@ fn say_bad_plan<S: Shelf>(page: &mut Page, shelf: &mut S, inputs: &Inputs<'_>, f
 fn say_bad_tree<S: Shelf>(page: &mut Page, shelf: &mut S, inputs: &Inputs<'_>, fault: TreeFault)
     ensures { LeavesFiles (S.Sink.view shelf.old) (S.Sink.view shelf.new) }
 {
-    if let Some((name, tree)) = again(page, shelf, inputs.tree) {
+    if let Some((name, tree)) = faulty(page, shelf, inputs, Input::Tree) {
         say_tree(page, name, tree.as_slice(), inputs.turn, fault)
     }
 }
@@ -106,7 +131,7 @@ fn say_bad_tree<S: Shelf>(page: &mut Page, shelf: &mut S, inputs: &Inputs<'_>, f
 fn say_bad_log<S: Shelf>(page: &mut Page, shelf: &mut S, inputs: &Inputs<'_>, fault: LogFault)
     ensures { LeavesFiles (S.Sink.view shelf.old) (S.Sink.view shelf.new) }
 {
-    let Some((name, log)) = again(page, shelf, inputs.log) else {
+    let Some((name, log)) = faulty(page, shelf, inputs, Input::Log) else {
         return;
     };
     match fault {

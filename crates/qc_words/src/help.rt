@@ -80,9 +80,9 @@ Faults end with 2, 4 and 9, and are told by their kind and place: man 5 qc.
 
 const FREE: &[u8] = b"qc free SHIP STOW PLAN TREE [--nodes N] [--from OWN]
 
-Searches as plan does, for plans of any kind: a crane may go to and fro where it pays. It begins with
-the best that plan finds with as many branchings, so it takes longer, and it never writes a later
-one; its tree is one of all feasible plans.
+Searches as plan does, for plans of any kind: a crane may go to and fro where it pays. It goes on
+from what a search as of plan finds first, with as many branchings, so it takes longer; its tree is
+one of all feasible plans.
     --nodes N    at most N branchings of each search, 0 to 100000; 20000 where it isn't given
     --from OWN   a plan to begin with, whichever way its cranes go: what is written never ends later
 Ends with 0 Optimal: no feasible plan ends earlier; 10 Infeasible: there is none; 11 Budget: the
@@ -118,7 +118,8 @@ Faults end with 2 to 6, 8, 9, 15 and 17, and are told by their kind and place: m
 
 const WATCH: &[u8] = b"qc watch SHIP LOG
 
-Reads a log of lines TIME NAME PLACE, and tells whether two cranes came nearer than their margin.
+Reads a log of lines TIME NAME PLACE, and tells whether two cranes came nearer than their margin
+while both are known, each from its first report to its last.
 Ends with 0 Safe, or 18 Breach.
 Faults end with 2 to 5, 9, 15 and 17, and are told by their kind and place: man 5 qc.
 ";
