@@ -1,12 +1,9 @@
 //! Runs tables of inner calls and prints one line a row: whether it answers as it must.
 //!
-//! `starts_rows.rt` has calls on least starts and on the leaves that close nodes, and `course_rows.rt` calls
-//! of a dispatcher. What definitions give on worked examples stands in `proofs/Rows.antt`.
+//! `starts_rows.rt` has calls on least starts and on the leaves that close nodes. What definitions give on worked examples stands in `proofs/Rows.antt`.
 //! A line is `ok NAME` or `FAILED NAME: ` with what came in place of what; the status is 1 where a row failed.
 #![tactic(auto)]
 
-mod course;
-mod course_rows;
 mod crew;
 mod files;
 mod instance;
@@ -15,7 +12,6 @@ mod starts_rows;
 mod text;
 
 use anyhow::Result;
-use course_rows::COURSES;
 use starts_rows::STARTS;
 use std::process::ExitCode;
 
@@ -40,19 +36,8 @@ fn run_starts<R: Print + AllocGlobal>(rt: &R) -> Result<bool> {
     Ok(all_held)
 }
 
-// Runs the rows of calls of a dispatcher; whether all held.
-fn run_courses<R: Print + AllocGlobal>(rt: &R) -> Result<bool> {
-    let mut all_held = true;
-    for row in COURSES {
-        all_held = show(rt, row.name, course::run(rt.alloc(), row))? && all_held;
-    }
-    Ok(all_held)
-}
-
 fn main(rt: HostRuntime) -> Result<ExitCode> {
-    let starts_hold = run_starts(&rt)?;
-    let courses_hold = run_courses(&rt)?;
-    Ok(if starts_hold && courses_hold {
+    Ok(if run_starts(&rt)? {
         ExitCode::SUCCESS
     } else {
         ExitCode::FAILURE
