@@ -2,7 +2,7 @@
 use Rattle.std.specs.Prelude.{ℕ, List, ◌++◌, codes, decimal}
 use Rattle.qc_run.specs.declared.status.Status.{Status}
 use Rattle.qc_run.specs.declared.status.Status.TheVariants as status
-use Rattle.qc_log_commands.specs.declared.watching.Near.{Near}
+use Rattle.qc_log_commands.specs.declared.watching.BreachReport.{BreachReport}
 use Rattle.qc_log_commands.specs.declared.watching.Watching.{Watching}
 use Rattle.qc_log_commands.specs.declared.watching.Watching.TheVariants as watching
 
@@ -11,7 +11,7 @@ abbrev pub safe_text : ℕ → List ℕ
 safe_text count = codes "Safe " ++ decimal count ++ codes "\n"
 
 -- the time of the first report at which two cranes were too near, and their names
-abbrev pub near_text : Near → List ℕ
+abbrev pub near_text : BreachReport → List ℕ
 near_text told =
     codes "Breach " ++ decimal told.at ++ codes " " ++ told.first ++ codes " " ++ told.second ++ codes "\n"
 

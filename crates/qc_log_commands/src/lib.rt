@@ -17,4 +17,4 @@ mod watching;
 pub use dispatched::dispatch;
 pub use dispatching::{Dispatched, Dispatching};
 pub use watched::watch;
-pub use watching::{Near, Watching};
+pub use watching::{BreachReport, Watching};

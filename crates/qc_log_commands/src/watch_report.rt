@@ -3,7 +3,7 @@ ghost use Rattle.std.specs.Prelude.{◌≡◌};
 ghost use Rattle.qc_run.specs.Reports.{Prints, PrintsPart, Reports};
 ghost use Rattle.qc_log_commands.specs.WatchTexts.{near_text, safe_text, watching_status, watching_text};
 
-use crate::watching::{Near, Watching};
+use crate::watching::{BreachReport, Watching};
 use qc_io::Sink;
 use qc_num::Text;
 use qc_run::{Ended, Status, report_text};
@@ -19,7 +19,7 @@ fn safe_text(count: u32) -> Text<64>
 }
 
 /// What is told of two cranes that were too near.
-fn near_text(told: &Near) -> Text<64>
+fn near_text(told: &BreachReport) -> Text<64>
     ensures { result ≡ near_text told.now }
 {
     let mut text = Text::of(b"Breach ");

@@ -6,7 +6,7 @@ ghost use Rattle.qc_log_commands.specs.WatchAccount.{watch_reader};
 ghost use Rattle.qc_log_commands.specs.WatchHeld.{TellsNear, crane_name};
 
 use crate::watch_report::report;
-use crate::watching::{Near, Watching};
+use crate::watching::{BreachReport, Watching};
 use qc_io::{Shelf, Sink};
 use qc_num::Text;
 use qc_run::{Ended, Inputs, Stop, read_watched, report_stop};
@@ -23,12 +23,12 @@ fn crane_name(ship: &Ship, crane: u16) -> Text<12>
 }
 
 /// What is told of a breach.
-fn near_of(ship: &Ship, breach: Breach) -> Near
+fn near_of(ship: &Ship, breach: Breach) -> BreachReport
     requires first { breach.first < length ship.now.cranes }
     requires second { breach.second < length ship.now.cranes }
     ensures { TellsNear ship.now breach result }
 {
-    Near {
+    BreachReport {
         at: breach.at,
         first: crane_name(ship, breach.first),
         second: crane_name(ship, breach.second),

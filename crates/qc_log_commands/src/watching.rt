@@ -4,7 +4,7 @@ use qc_num::{Text, Tick};
 
 /// What is told of two cranes that were too near.
 #[derive(Drop)]
-pub struct Near {
+pub struct BreachReport {
     /// The time of the first report at which two were.
     pub at: Tick,
     /// The name of the lower crane.
@@ -19,5 +19,5 @@ pub enum Watching {
     /// Every two cranes kept their margin; the number of reports is to be printed.
     Safe(u32),
     /// Two cranes were too near.
-    Breach(Near),
+    Breach(BreachReport),
 }

@@ -18,5 +18,5 @@ mod windows;
 
 pub use event::{Child, Event};
 pub use hatch::{Block, Hatch};
-pub use part::Part;
+pub use part::UpwardView;
 pub use state::State;

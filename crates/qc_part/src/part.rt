@@ -21,7 +21,7 @@ const NEVER: i64 = 1 << 60;
 
 /// A ship read upward: its hatches along the ship, and the events in the order in which tasks wait
 /// for each other. It keeps a copy of the instance, and as that it is seen.
-pub struct Part {
+pub struct UpwardView {
     inst: Instance,
     hatches: Vec<Hatch>,
     events: Vec<Event>,
@@ -29,7 +29,7 @@ pub struct Part {
     stands: Stands,
 }
 
-impl Model for Part {
+impl Model for UpwardView {
     ghost use Rattle.std.specs.Prelude.{◌≤◌, vec_len};
     ghost use Rattle.qc_model.specs.Instance.{InstanceView};
 
@@ -41,9 +41,9 @@ impl Model for Part {
 }
 
 // By hand, so that it is let go by one call wherever it is held.
-impl Drop for Part {
+impl Drop for UpwardView {
     fn drop(self) {
-        let Part {
+        let UpwardView {
             inst: _,
             hatches: _,
             events: _,
@@ -53,10 +53,10 @@ impl Drop for Part {
     }
 }
 
-impl Part {
+impl UpwardView {
     /// The part that reads this instance upward; for the way down it is given the mirror. `None` where
     /// more than 60 hatches have tasks.
-    pub fn open(alloc: Global, inst: &Instance) -> Result<Option<Part>, OutOfMemory>
+    pub fn open(alloc: Global, inst: &Instance) -> Result<Option<UpwardView>, OutOfMemory>
         ensures { IfOk result (λ opened. IfSome opened (λ part. part ≡ inst.now)) }
     {
         let hatches = hatches_of(alloc, inst)?;
@@ -65,7 +65,7 @@ impl Part {
         }
         let events = events_of(alloc, inst, hatches.as_slice())?;
         let numbers = numbers_of(events.as_slice());
-        Ok(Some(Part {
+        Ok(Some(UpwardView {
             inst: copy(alloc, inst)?,
             hatches,
             events,

@@ -13,7 +13,7 @@ use Rattle.qc_model.proofs.SafeLemmas.{safe_of}
 use Rattle.qc_motion.specs.Tracks.{TrackView}
 use Rattle.qc_starts.specs.Tight.{IsAllowedSo}
 use Rattle.qc_plan_command.specs.declared.answer.Motion.TheVariants as motion
-use Rattle.qc_plan_command.specs.declared.room.Room.TheVariants as room
+use Rattle.qc_plan_command.specs.declared.room.TrackBuffer.TheVariants as room
 use Rattle.qc_plan_command.specs.Found.{MovesSafely}
 use Rattle.qc_plan_command.specs.Rooms.{IsRoom}
 

@@ -23,7 +23,7 @@ use Rattle.qc_plan_command.specs.declared.answer.PlanAnswer.{PlanAnswer}
 use Rattle.qc_plan_command.specs.declared.answer.PlanAnswer.TheVariants as answer
 use Rattle.qc_plan_command.specs.Account.{IsLeft, IsPlanning, IsSearched, IsStopped, IsWritten, Writes}
 use Rattle.qc_plan_command.specs.Found.{Tells}
-use Rattle.qc_plan_command.specs.Opened.{IsSearchFor, WasRun, search_from}
+use Rattle.qc_plan_command.specs.Resources.{IsSearchFor, WasRun, search_from}
 
 -- what stays as it was is as it was, told or not
 pub as_it_was : (P : Files → Type 0) (before after : Option Files) → after ≡ before

@@ -1,6 +1,6 @@
 pub mod Rooms
-pub mod Ahead
-pub mod Opened
+pub mod InitialPlan
+pub mod Resources
 pub mod Found
 pub mod Reports
 pub mod Lines

@@ -5,7 +5,7 @@ ghost use Rattle.qc_model.specs.declared.turn.Turn.TheVariants.{OneWay};
 ghost use Rattle.qc_model.specs.Instance.{with_turn};
 ghost use Rattle.qc_model.specs.Judge.{IsJudgeable};
 ghost use Rattle.qc_model.specs.Numbers.{most_branchings};
-ghost use Rattle.qc_plan_command.specs.Ahead.{IsAhead, IsGoing};
+ghost use Rattle.qc_plan_command.specs.InitialPlan.{IsInitialPlan, IsGoing};
 ghost use Rattle.qc_search.specs.Outcome.{WasOffered};
 
 use crate::nowhere::Nowhere;
@@ -18,7 +18,7 @@ use std::alloc::Global;
 
 /// What is known ahead of a search, or is to be searched ahead of it. All memory is taken.
 #[derive(Drop)]
-pub(crate) enum Ahead {
+pub(crate) enum InitialPlan {
     /// Where cranes go one way: what the sweeps found.
     Swept(Option<Going>),
     /// Where they go as they like: a search for a plan that goes one way.
@@ -75,19 +75,19 @@ pub(crate) fn ahead_of(
     inst: &Instance,
     own: Option<&Schedule>,
     nodes: u32,
-) -> Result<Ahead, OutOfMemory>
+) -> Result<InitialPlan, OutOfMemory>
     requires nodes { nodes ≤ most_branchings }
     requires own { IfSome own (λ sched. IsJudgeable inst.now sched.now) }
-    ensures { IfOk result (IsAhead inst.now) }
+    ensures { IfOk result (IsInitialPlan inst.now) }
 {
     match inst.turn() {
         Turn::OneWay => {
             let swept = first_plan(alloc, inst, EFFORT)?;
-            Ok(Ahead::Swept(swept))
+            Ok(InitialPlan::Swept(swept))
         }
         Turn::Free => {
             let search = one_way_search(alloc, inst, own, nodes)?;
-            Ok(Ahead::OneWay(search))
+            Ok(InitialPlan::OneWay(search))
         }
     }
 }
@@ -108,21 +108,21 @@ fn best_of(search: Search, inst: &Instance) -> Option<Going>
     }
 }
 
-impl Ahead {
+impl InitialPlan {
     /// The plan that is found ahead of the search of this instance, if any is.
     fn found(self, inst: &Instance) -> Option<Going>
-        requires { IsAhead inst.now self }
+        requires { IsInitialPlan inst.now self }
         ensures { IfSome result (IsGoing inst.now) }
     {
         match self {
-            Ahead::Swept(found) => found,
-            Ahead::OneWay(search) => best_of(search, inst),
+            InitialPlan::Swept(found) => found,
+            InitialPlan::OneWay(search) => best_of(search, inst),
         }
     }
 
     /// Offers that plan to the search.
     pub(crate) fn offer_to(self, inst: &Instance, search: &mut Search)
-        requires ahead { IsAhead inst.now self }
+        requires ahead { IsInitialPlan inst.now self }
         requires inst { search.old.inst ≡ inst.now }
         ensures stays { search.new ≡ record search.old { first = search.new.first } }
         ensures offered { (found : Option (List Slot)) × WasOffered inst.now found search.old.first search.new.first }

@@ -7,17 +7,17 @@ ghost use Rattle.qc_model.specs.OneWay.{IsAllowed};
 ghost use Rattle.qc_run.specs.Due.{own_job_due};
 ghost use Rattle.qc_run.specs.Steps.{ComesTo};
 ghost use Rattle.qc_plan_command.specs.Account.{IsPlanRun, IsPlanning};
-ghost use Rattle.qc_plan_command.specs.Ahead.{IsAhead};
+ghost use Rattle.qc_plan_command.specs.InitialPlan.{IsInitialPlan};
 ghost use Rattle.qc_run.specs.Inputs.{names_of, planning};
-ghost use Rattle.qc_plan_command.specs.Opened.{IsOpened, IsSearchFor, WasRun, search_from};
+ghost use Rattle.qc_plan_command.specs.Resources.{IsOpened, IsSearchFor, WasRun, search_from};
 ghost use Rattle.qc_plan_command.specs.Promises.{PlanPromises};
 ghost use Rattle.qc_plan_command.specs.Reports.{CanBeTold};
 ghost use Rattle.qc_plan_command.specs.Stored.{IsCut, IsStored};
 
-use crate::ahead::Ahead;
+use crate::ahead::InitialPlan;
 use crate::answer::PlanAnswer;
 use crate::found::answer_of;
-use crate::opened::{Opened, open_for};
+use crate::opened::{Resources, open_for};
 use crate::report::report;
 use crate::way::own_way;
 use qc_io::{Shelf, Sink, WriteFault};
@@ -31,12 +31,12 @@ use std::alloc::Global;
 fn run_search<S: Shelf>(
     asked: &PlanAsked<'_>,
     inst: &Instance,
-    ahead: Ahead,
+    ahead: InitialPlan,
     mut search: Search,
     shelf: &mut S,
 ) -> Result<Done, WriteFault>
     requires search { search ≡ search_from inst.now asked.now.nodes search.first }
-    requires ahead { IsAhead inst.now ahead }
+    requires ahead { IsInitialPlan inst.now ahead }
     ensures searched { WasRun inst.now asked.now.nodes search.first asked.now.tree.now
         (S.Sink.view shelf.old).files (S.Sink.view shelf.new).files result }
     ensures counts { Counts (S.Sink.view shelf.old).faults (S.Sink.view shelf.new).faults result }
@@ -53,7 +53,7 @@ fn run_search<S: Shelf>(
 fn store_search<S: Shelf>(
     asked: &PlanAsked<'_>,
     job: &OwnJob,
-    ahead: Ahead,
+    ahead: InitialPlan,
     search: Search,
     shelf: &mut S,
 ) -> Result<Done, WriteFault>
@@ -62,7 +62,7 @@ fn store_search<S: Shelf>(
     requires due { ComesTo (own_job_due (planning asked.now).inputs.own) (planning asked.now).inputs
         (S.Sink.view shelf.old).files (Ok job.now) }
     requires allowed { IfSome job.now.own (IsAllowed job.now.inst) }
-    requires ahead { IsAhead job.now.inst ahead }
+    requires ahead { IsInitialPlan job.now.inst ahead }
     ensures stored { IfOk result
         (IsStored (planning asked.now) (S.Sink.view shelf.old) (S.Sink.view shelf.new) job.now.inst) }
     ensures cut { OnErr result
@@ -88,7 +88,7 @@ fn store_search<S: Shelf>(
 fn plan_job<S: Shelf>(
     asked: &PlanAsked<'_>,
     job: OwnJob,
-    opened: Opened,
+    opened: Resources,
     shelf: &mut S,
 ) -> PlanAnswer
     requires opened { IsOpened job.inst asked.now.nodes job.own opened }
@@ -99,7 +99,7 @@ fn plan_job<S: Shelf>(
     ensures ready { CanBeTold result }
     ensures never_falls { (S.Sink.view shelf.old).faults ≤ (S.Sink.view shelf.new).faults }
 {
-    let Opened {
+    let Resources {
         room,
         ahead,
         search,

@@ -9,13 +9,13 @@ ghost use Rattle.qc_plan_command.specs.Reports.{CanBeTold};
 ghost use Rattle.qc_plan_command.specs.Rooms.{IsRoom};
 
 use crate::answer::{PlanAnswer, Planned};
-use crate::room::{Room, motion_of};
+use crate::room::{TrackBuffer, motion_of};
 use qc_model::{Instance, ends};
 use qc_num::Bound;
 use qc_search::Done;
 
 /// The answer that tells what a search came to; the room is for its motion.
-pub(crate) fn answer_of(inst: Instance, done: Done, room: Room) -> PlanAnswer
+pub(crate) fn answer_of(inst: Instance, done: Done, room: TrackBuffer) -> PlanAnswer
     requires none_earlier { NoneEarlier inst done.bound }
     requires judgeable { IfSome done.best (IsJudgeable inst) }
     requires tight { IfSome done.best (IsTight inst) }

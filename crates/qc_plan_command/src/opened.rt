@@ -2,11 +2,11 @@
 ghost use Rattle.std.specs.Prelude.{◌≤◌, IfOk, IfSome, option_map};
 ghost use Rattle.qc_model.specs.Judge.{IsJudgeable};
 ghost use Rattle.qc_model.specs.Numbers.{most_branchings};
-ghost use Rattle.qc_plan_command.specs.Opened.{IsOpened, IsSearchFor};
+ghost use Rattle.qc_plan_command.specs.Resources.{IsOpened, IsSearchFor};
 ghost use Rattle.qc_starts.specs.Tight.{IsSeenSo};
 
-use crate::ahead::{Ahead, ahead_of};
-use crate::room::{Room, room_for};
+use crate::ahead::{InitialPlan, ahead_of};
+use crate::room::{TrackBuffer, room_for};
 use qc_model::{Direction, Instance, Schedule};
 use qc_num::OutOfMemory;
 use qc_search::Search;
@@ -14,9 +14,9 @@ use std::alloc::Global;
 
 /// All that a plan of an instance takes.
 #[derive(Drop)]
-pub(crate) struct Opened {
-    pub(crate) room: Room,
-    pub(crate) ahead: Ahead,
+pub(crate) struct Resources {
+    pub(crate) room: TrackBuffer,
+    pub(crate) ahead: InitialPlan,
     pub(crate) search: Search,
 }
 
@@ -48,7 +48,7 @@ pub(crate) fn open_for(
     own: Option<&Schedule>,
     way: Direction,
     nodes: u32,
-) -> Result<Opened, OutOfMemory>
+) -> Result<Resources, OutOfMemory>
     requires nodes { nodes ≤ most_branchings }
     requires own { IfSome own (λ sched. IsJudgeable inst.now sched.now) }
     requires seen { IfSome own (λ sched. IsSeenSo inst.now.turn inst.now sched.now way) }
@@ -64,7 +64,7 @@ pub(crate) fn open_for(
         drop(room);
         return Err(OutOfMemory);
     };
-    Ok(Opened {
+    Ok(Resources {
         room,
         ahead,
         search,

@@ -17,36 +17,41 @@ use std::alloc::Global;
 
 /// Where the waypoints of one crane after the other are put, by the way in which cranes may go.
 #[derive(Drop)]
-pub(crate) enum Room {
+pub(crate) enum TrackBuffer {
     OneWay(Track),
     Free(FreeTrack),
 }
 
 /// Room for the waypoints of each crane of a schedule of so many tasks.
-fn room_of(alloc: Global, turn: Turn, tasks: u16) -> Result<Room, OutOfMemory>
+fn room_of(alloc: Global, turn: Turn, tasks: u16) -> Result<TrackBuffer, OutOfMemory>
     ensures { IfOk result (IsRoom turn tasks) }
 {
     match turn {
         Turn::OneWay => {
             let track = Track::new(alloc, tasks)?;
-            Ok(Room::OneWay(track))
+            Ok(TrackBuffer::OneWay(track))
         }
         Turn::Free => {
             let track = FreeTrack::new(alloc, tasks)?;
-            Ok(Room::Free(track))
+            Ok(TrackBuffer::Free(track))
         }
     }
 }
 
 /// Room for the waypoints of each crane of a schedule of the instance.
-pub(crate) fn room_for(alloc: Global, inst: &Instance) -> Result<Room, OutOfMemory>
+pub(crate) fn room_for(alloc: Global, inst: &Instance) -> Result<TrackBuffer, OutOfMemory>
     ensures { IfOk result (IsRoom inst.now.turn (length inst.now.tasks)) }
 {
     room_of(alloc, inst.turn(), inst.task_count())
 }
 
 /// How the cranes of a schedule go that they may follow as it is seen that way.
-pub(crate) fn motion_of(inst: &Instance, sched: &Schedule, way: Direction, room: Room) -> Motion
+pub(crate) fn motion_of(
+    inst: &Instance,
+    sched: &Schedule,
+    way: Direction,
+    room: TrackBuffer,
+) -> Motion
     requires valid { Valid inst.now }
     requires judgeable { IsJudgeable inst.now sched.now }
     requires goes { IsAllowedSo inst.now.turn inst.now sched.now way }
@@ -55,10 +60,10 @@ pub(crate) fn motion_of(inst: &Instance, sched: &Schedule, way: Direction, room:
     ensures ready { CanBeMoved inst.now sched.now result }
 {
     match room {
-        Room::OneWay(track) => {
+        TrackBuffer::OneWay(track) => {
             let direction = direction_as(inst, sched, way);
             Motion::OneWay { direction, track }
         }
-        Room::Free(track) => Motion::Free { track },
+        TrackBuffer::Free(track) => Motion::Free { track },
     }
 }

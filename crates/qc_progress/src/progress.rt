@@ -1,7 +1,7 @@
 //! A shelf that tells how far a search has come whose tree is written to it.
 ghost use Rattle.std.specs.Prelude.{◌≡◌};
 
-use crate::sight::Sight;
+use crate::sight::ProgressLine;
 use qc_io::{Failed, Outlook, Shelf, Sink};
 
 /// A shelf that sees the lines of the tree that a search writes to it, and tells on standard error how far the search
@@ -13,7 +13,7 @@ pub struct Progress<'a, S, R> {
     /// Whether anybody looks.
     is_shown: bool,
     /// What is known of the search that runs; none where none does, or nobody looks.
-    sight: Option<Sight>,
+    sight: Option<ProgressLine>,
 }
 
 impl<'a, S: Shelf, R: Eprint> Progress<'a, S, R> {
@@ -43,7 +43,7 @@ impl<'a, S: Shelf, R: Eprint> Progress<'a, S, R> {
     }
 
     /// Tells what is known, over what was told before.
-    fn show(&mut self, sight: Sight)
+    fn show(&mut self, sight: ProgressLine)
         ensures { self.new.shelf ≡ self.old.shelf }
     {
         self.sight = Some(sight);
@@ -115,7 +115,7 @@ impl<S: Shelf, R: Eprint> Shelf for Progress<'_, S, R> {
 
     fn tell(&mut self, outlook: Outlook) {
         if self.is_shown {
-            self.show(Sight::new(outlook));
+            self.show(ProgressLine::new(outlook));
         }
         self.shelf.tell(outlook);
     }

@@ -13,7 +13,7 @@ const DIGITS: usize = 20;
 
 /// What is known of a search that runs.
 #[derive(Clone, Copy)]
-pub(crate) struct Sight {
+pub(crate) struct ProgressLine {
     /// How many branchings it has made.
     branchings: u32,
     /// How many it may make.
@@ -24,9 +24,9 @@ pub(crate) struct Sight {
     bound: Option<Tick>,
 }
 
-impl Sight {
+impl ProgressLine {
     /// What is known before the first branching.
-    pub(crate) fn new(outlook: Outlook) -> Sight
+    pub(crate) fn new(outlook: Outlook) -> ProgressLine
         ensures { result ≡ record {
           branchings = 0;
           limit = outlook.limit;
@@ -34,7 +34,7 @@ impl Sight {
           bound = outlook.bound;
         } }
     {
-        Sight {
+        ProgressLine {
             branchings: 0,
             limit: outlook.limit,
             end: outlook.end,
@@ -72,7 +72,7 @@ impl Sight {
     }
 }
 
-impl fmt::Display for Sight {
+impl fmt::Display for ProgressLine {
     fn fmt<W: fmt::Write>(&self, f: &mut fmt::Formatter<W>) -> fmt::Result {
         let branchings = Grouped(u64::from(self.branchings));
         let end = Named("end", self.end);
@@ -122,7 +122,7 @@ mod tests {
     use super::*;
 
     /// What is told once these lines were seen, and whether the last one was worth it.
-    fn is_told<R: AllocGlobal>(rt: &R, sight: Sight, want: &str) -> bool {
+    fn is_told<R: AllocGlobal>(rt: &R, sight: ProgressLine, want: &str) -> bool {
         match format!(in rt.alloc(); "{sight}") {
             Ok(told) => told.as_str() == want,
             Err(_) => false,
@@ -131,7 +131,7 @@ mod tests {
 
     #[test]
     fn tells_a_thousandth_branching_and_a_better_plan(rt: HostRuntime) {
-        let mut sight = Sight::new(Outlook {
+        let mut sight = ProgressLine::new(Outlook {
             limit: 12_035,
             end: Some(27_151),
             bound: Some(26_454),
@@ -153,7 +153,7 @@ mod tests {
 
     #[test]
     fn tells_what_it_knows(rt: HostRuntime) {
-        let mut sight = Sight::new(Outlook {
+        let mut sight = ProgressLine::new(Outlook {
             limit: 5,
             end: None,
             bound: None,

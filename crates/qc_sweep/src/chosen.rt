@@ -3,7 +3,7 @@
 use crate::node::Step;
 use crate::trail::Trail;
 use qc_num::OutOfMemory;
-use qc_part::{Event, Part};
+use qc_part::{Event, UpwardView};
 use std::alloc::Global;
 
 /// Gives the tasks that were done at an event its crane.
@@ -19,7 +19,7 @@ fn give(cranes: &mut Vec<Option<u16>>, event: &Event, step: Step) {
 /// The crane of each task, from how the last state was come to back to the first one.
 pub(crate) fn cranes_of(
     alloc: Global,
-    part: &Part,
+    part: &UpwardView,
     trail: &Trail,
     last: Step,
 ) -> Result<Vec<Option<u16>>, OutOfMemory> {

@@ -23,9 +23,4 @@ impl Dice {
         self.state = x;
         ((x >> 32).wrapping_mul(count as u64) >> 32) as usize
     }
-
-    /// Whether one of so many in a hundred comes.
-    pub(crate) fn falls(&mut self, percent: usize) -> bool {
-        self.below(100) < percent
-    }
 }

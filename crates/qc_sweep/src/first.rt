@@ -14,7 +14,7 @@ use crate::split::split;
 use qc_dist::in_reach;
 use qc_model::{Direction, Instance, mirror};
 use qc_num::{OutOfMemory, Tick};
-use qc_part::Part;
+use qc_part::UpwardView;
 use std::alloc::Global;
 
 /// No sweep is asked for a later end.
@@ -54,7 +54,7 @@ fn is_reached(inst: &Instance, task: u16) -> bool
 }
 
 /// The greatest tick before which no slack is left at the beginning, found by halving.
-fn low_end(part: &Part) -> Tick {
+fn low_end(part: &UpwardView) -> Tick {
     let root = part.root();
     let mut low = 0;
     let mut high = MOST_LOW;
@@ -74,8 +74,8 @@ fn parts_of(alloc: Global, inst: &Instance) -> Result<Option<Parts>, OutOfMemory
     ensures { IfOk result (λ found. IfSome found (AreParts inst.now)) }
 {
     let turned = mirror(alloc, inst)?;
-    let up = Part::open(alloc, inst)?;
-    let down = Part::open(alloc, &turned)?;
+    let up = UpwardView::open(alloc, inst)?;
+    let down = UpwardView::open(alloc, &turned)?;
     match (up, down) {
         (Some(up), Some(down)) => Ok(Some(Parts { up, down })),
         _ => Ok(None),
@@ -86,7 +86,7 @@ fn parts_of(alloc: Global, inst: &Instance) -> Result<Option<Parts>, OutOfMemory
 fn split_plan(
     alloc: Global,
     inst: &Instance,
-    part: &Part,
+    part: &UpwardView,
     way: Direction,
 ) -> Result<(Start, Option<Going>), OutOfMemory>
     requires { part.now ≡ seen inst.now way }
@@ -201,7 +201,7 @@ fn plan_of(
 fn local_plan(
     alloc: Global,
     inst: &Instance,
-    part: &Part,
+    part: &UpwardView,
     way: Direction,
     start: &Start,
     low: Tick,

@@ -10,14 +10,14 @@ use crate::schedule::{better, end_of, schedule_of};
 use crate::sweep::sweep;
 use qc_model::{Direction, Instance};
 use qc_num::{OutOfMemory, Tick};
-use qc_part::Part;
+use qc_part::UpwardView;
 use std::alloc::Global;
 
 /// Both parts of an instance.
 #[derive(Drop)]
 pub(crate) struct Parts {
-    pub(crate) up: Part,
-    pub(crate) down: Part,
+    pub(crate) up: UpwardView,
+    pub(crate) down: UpwardView,
 }
 
 /// A crane for each task of a part, where there is one, and when the schedule of these cranes ends; later than any where
@@ -101,7 +101,7 @@ impl Hunt {
 fn sweep_part(
     alloc: Global,
     inst: &Instance,
-    part: &Part,
+    part: &UpwardView,
     way: Direction,
     hunt: &mut Hunt,
     end: Tick,

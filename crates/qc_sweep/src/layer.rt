@@ -2,14 +2,14 @@
 
 use crate::node::{Node, Step};
 use qc_num::{OutOfMemory, Tick};
-use qc_part::{Event, Part};
+use qc_part::{Event, UpwardView};
 use std::cmp::Reverse;
 
 /// What a sweep is at: the event by its number, whether no event behind it is one of its hatch, and the
 /// tick before which all is to end.
 #[derive(Clone, Copy)]
 pub(crate) struct Turn<'a> {
-    pub(crate) part: &'a Part,
+    pub(crate) part: &'a UpwardView,
     pub(crate) event: &'a Event,
     pub(crate) number: usize,
     pub(crate) is_last: bool,

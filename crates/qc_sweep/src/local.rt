@@ -8,7 +8,7 @@ use crate::schedule::place_all;
 use crate::walk::Walk;
 use qc_model::Instance;
 use qc_num::{OutOfMemory, Tick};
-use qc_part::Part;
+use qc_part::UpwardView;
 use qc_starts::Starts;
 use std::alloc::Global;
 
@@ -72,7 +72,7 @@ fn look(
 /// None are looked for that are done before the low tick.
 pub(crate) fn improved(
     alloc: Global,
-    part: &Part,
+    part: &UpwardView,
     start: &Start,
     low: Tick,
     looks: u32,

@@ -2,7 +2,7 @@
 
 use qc_model::{MOST_CRANES, MOST_HATCHES};
 use qc_num::OutOfMemory;
-use qc_part::{Event, Part};
+use qc_part::{Event, UpwardView};
 use std::alloc::Global;
 
 /// The pairs of a hatch and a crane come 64 to a word.
@@ -60,7 +60,7 @@ fn visit_of(event: &Event) -> Visit {
 }
 
 /// The tasks, each without a crane.
-fn loads_of(alloc: Global, part: &Part) -> Result<Vec<Load>, OutOfMemory> {
+fn loads_of(alloc: Global, part: &UpwardView) -> Result<Vec<Load>, OutOfMemory> {
     let none = Load {
         hatch: u8::MAX,
         ticks: 0,
@@ -82,7 +82,7 @@ fn loads_of(alloc: Global, part: &Part) -> Result<Vec<Load>, OutOfMemory> {
 
 impl Shares {
     /// No task has a crane.
-    fn empty(alloc: Global, part: &Part) -> Result<Shares, OutOfMemory> {
+    fn empty(alloc: Global, part: &UpwardView) -> Result<Shares, OutOfMemory> {
         let mut numbers = [[NO_VISIT; MOST_CRANES as usize]; MOST_HATCHES as usize];
         let mut visits = Vec::new(alloc);
         for (number, event) in part.events().iter().enumerate() {
@@ -105,7 +105,7 @@ impl Shares {
     /// These cranes; the lowest that reaches it for a task that has none of them.
     pub(crate) fn of(
         alloc: Global,
-        part: &Part,
+        part: &UpwardView,
         cranes: &[Option<u16>],
     ) -> Result<Shares, OutOfMemory> {
         let mut shares = Shares::empty(alloc, part)?;

@@ -5,7 +5,7 @@ ghost use Rattle.qc_model.specs.Numbers.{most_hatches};
 
 use qc_model::{MOST_CRANES, MOST_HATCHES};
 use qc_num::OutOfMemory;
-use qc_part::{Block, Hatch, Part};
+use qc_part::{Block, Hatch, UpwardView};
 use std::alloc::Global;
 
 /// How many numbers of hatches there are from the first on, none included.
@@ -79,7 +79,7 @@ fn give(cranes: &mut Vec<Option<u16>>, block: &Block, crane: u16) {
 
 /// The split in which the last crane is done first, where each crane works alone. A task has no crane
 /// where there is no split.
-pub(crate) fn split(alloc: Global, part: &Part) -> Result<Vec<Option<u16>>, OutOfMemory> {
+pub(crate) fn split(alloc: Global, part: &UpwardView) -> Result<Vec<Option<u16>>, OutOfMemory> {
     let inst = part.instance();
     let hatches = part.hatches();
     let mut cranes = vec![in alloc; None; inst.task_count() as usize]?;

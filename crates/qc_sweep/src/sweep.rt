@@ -5,7 +5,7 @@ use crate::layer::{Turn, choose, expand};
 use crate::node::{Node, Step};
 use crate::trail::Trail;
 use qc_num::{OutOfMemory, Tick};
-use qc_part::Part;
+use qc_part::UpwardView;
 use std::alloc::Global;
 
 /// A crane for each task, as a sweep found it.
@@ -38,7 +38,7 @@ fn earliest(nodes: &[Node]) -> Option<&Node> {
 }
 
 /// The layer before any event.
-fn first_layer(alloc: Global, part: &Part, end: Tick) -> Result<Vec<Node>, OutOfMemory> {
+fn first_layer(alloc: Global, part: &UpwardView, end: Tick) -> Result<Vec<Node>, OutOfMemory> {
     let mut layer = Vec::new(alloc);
     let state = part.root();
     if let Some(slack) = part.slack(&state, 0, end) {
@@ -79,7 +79,7 @@ fn advance(
 /// layer.
 pub(crate) fn sweep(
     alloc: Global,
-    part: &Part,
+    part: &UpwardView,
     end: Tick,
     width: usize,
 ) -> Result<Swept, OutOfMemory> {

@@ -6,7 +6,7 @@ use crate::shares::Shares;
 use crate::tries::change;
 use qc_model::MOST_CRANES;
 use qc_num::{OutOfMemory, Tick};
-use qc_part::Part;
+use qc_part::UpwardView;
 use std::alloc::Global;
 
 /// Where a walk is.
@@ -47,7 +47,7 @@ impl Walk {
     /// A walk that begins with these cranes. Nothing is expected to end before the low tick.
     pub(crate) fn open(
         alloc: Global,
-        part: &Part,
+        part: &UpwardView,
         cranes: &[Option<u16>],
         low: Tick,
     ) -> Result<Walk, OutOfMemory> {

@@ -1,7 +1,7 @@
 use Rattle.std.proofs.Common.{Some, subst}
 use Rattle.qc_model.specs.Instance.{InstanceView}
 use Rattle.qc_search.specs.Run.{IsOffered}
-use Rattle.qc_plan_command.proofs.ahead.Ahead.offer_to.Goals as goal
+use Rattle.qc_plan_command.proofs.ahead.InitialPlan.offer_to.Goals as goal
 
 pub returns-in-Some-clause-offered : goal.returns-in-Some-clause-offered
 returns-in-Some-clause-offered c = (

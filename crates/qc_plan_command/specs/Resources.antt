@@ -6,8 +6,8 @@ use Rattle.qc_model.specs.Instance.{InstanceView}
 use Rattle.qc_search.specs.Run.{DoneView, IsSound, SearchView}
 use Rattle.qc_search.specs.Outcome.{WasOffered}
 use Rattle.qc_search.specs.Stored.{IsTreeLeft, IsTreeStored}
-use Rattle.qc_plan_command.specs.declared.opened.Opened.{Opened}
-use Rattle.qc_plan_command.specs.Ahead.{IsAhead}
+use Rattle.qc_plan_command.specs.declared.opened.Resources.{Resources}
+use Rattle.qc_plan_command.specs.InitialPlan.{IsInitialPlan}
 use Rattle.qc_plan_command.specs.Rooms.{IsRoom}
 
 abbrev pub search_from : InstanceView → (nodes : ℕ) → Option (List Slot) → SearchView
@@ -19,9 +19,9 @@ pub record IsSearchFor (inst : InstanceView) (nodes : ℕ) (own : Option (List S
   pub offered : WasOffered inst own None search.first
 
 -- so it was, what is ahead of it is for the instance too, and there is room for the motion of its plan
-pub record IsOpened (inst : InstanceView) (nodes : ℕ) (own : Option (List Slot)) (opened : Opened) : Type 0 where
+pub record IsOpened (inst : InstanceView) (nodes : ℕ) (own : Option (List Slot)) (opened : Resources) : Type 0 where
   pub room : IsRoom inst.turn (length inst.tasks) opened.room
-  pub ahead : IsAhead inst opened.ahead
+  pub ahead : IsInitialPlan inst opened.ahead
   pub search : IsSearchFor inst nodes own opened.search
 
 -- a search of the instance with so many branchings that began with this was offered another schedule, if any was found, and
