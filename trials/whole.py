@@ -7,7 +7,8 @@ prints a line for each kind of trial: `ok` or `WRONG`, what was tried, and what 
 
 - `plan`, also from one's own plan, and `free` are killed at each call of the system by which they open, read, write, store,
   rename or remove a file, without older files and over older ones, and each of these calls fails: TREE is as before or
-  whole, and PLAN is as before, or TREE is whole and PLAN too;
+  whole, and PLAN is as before, or TREE is whole and PLAN too; each is stored before it is renamed, and where one of both
+  fails, the status is that of a failed write;
 - the commands that read alone are killed at each of these calls, and each fails: all files are as before;
 - two runs with different ships write the same TREE and PLAN at once, N times (300), `plan` or `free` each: each file is
   one of both, whole;
@@ -154,7 +155,8 @@ def kills(program, name, inputs, words, others):
 
 def failures(program, name, inputs, words, others):
     """Each call fails: the run comes to ReadFault or WriteFault, or to its answer with both files whole, with 4 where the
-    report is cut; or, where the program couldn't be loaded, to an end by the system's loader."""
+    report is cut or a file couldn't be stored or renamed; or, where the program couldn't be loaded, to an end by the
+    system's loader."""
     whole = planned(program, inputs, words, others)
     for older in ((), ("t", "p")):
         seen, bad = collections.Counter(), []
@@ -164,12 +166,21 @@ def failures(program, name, inputs, words, others):
             kinds = {0: ("Optimal",), 3: ("ReadFault",), 4: ("WriteFault", "", "Optimal", "Budget"), 11: ("Budget",), 127: ("",)}
             right = what and first in kinds.get(ran.returncode, ()) and (
                 first not in ("Optimal", "Budget") or what == "tree whole, plan whole") and (
-                ran.returncode not in (3, 127) or what == "tree as before, plan as before")
+                ran.returncode not in (3, 127) or what == "tree as before, plan as before") and (
+                call not in ("fsync", "rename") or ran.returncode == 4)
             seen[f"{ran.returncode} {first}".strip() + f", {what}"] += 1
             if not right or any(".part" in one for one in left) and call not in ("unlink", "close"):
                 bad.append(f"{call} {number}: {ran.returncode} {first} {sorted(left)}")
         told(f"{name}, each of {sum(seen.values())} calls fails, over {'and '.join(older) or 'no older files'}", not bad,
              ", ".join(f"{count} times {what}" for what, count in sorted(seen.items())) + (f"; {bad[:6]}" if bad else ""))
+
+
+def stored(program, name, inputs, words, others):
+    """Each new file is stored by the system before it is renamed."""
+    with Room(program, inputs, (), others) as room:
+        room.run(words, ["strace", "-o", "log", "-e", "trace=fsync,rename"])
+        calls = re.findall(r"^(\w+)\(", room.read("log").decode(errors="replace"), re.MULTILINE)
+    told(f"{name}, what puts its files in their places", calls == ["fsync", "rename"] * 2, ", ".join(calls))
 
 
 def readers(program, inputs, whole):
@@ -360,6 +371,7 @@ def main():
             ("free of the first example from one's own", inputs, [*FREED, "--from", "o"], own),
             ("free of what goes to and fro", example("to-and-fro"), FREED, {}),
             ("plan of the vessel, 30 branchings", example("vessel"), [*PLANNED, "--nodes", "30"], {})):
+        stored(program, name, files, words, others)
         kills(program, name, files, words, others)
         failures(program, name, files, words, others)
     readers(program, inputs, whole)

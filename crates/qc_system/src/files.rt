@@ -152,7 +152,7 @@ where
     }
 
     fn finish(&mut self) -> Result<(), Failed> {
-        let Some(making) = self.making.take() else {
+        let Some(mut making) = self.making.take() else {
             return Ok(());
         };
         match making.finish(&mut self.used) {

@@ -3,8 +3,8 @@
 //!
 //! A failure of a call is counted and moves nothing (`write_once`, `read_once`). No file is begun
 //! that was opened or finished (`note`, `is_among`). What is written to a new file waits, at most
-//! 65,536 bytes of it (`Held`); a line of standard output goes out with its end (`Lines`). The rest
-//! is the trusted edge.
+//! 65,536 bytes of it (`Held`), and is in the file before that takes its place (`Making::finish`); a
+//! line of standard output goes out with its end (`Lines`). The rest is the trusted edge.
 #![tactic(auto)]
 
 mod files;

@@ -158,7 +158,11 @@ impl<R: Files> Making<'_, R> {
 
     /// Gives the file all its bytes, and notes that it is used.
     fn fill(&mut self, used: &mut Vec<Identity>) -> io::Result<()>
-        ensures { IfOk result (λ _. NotesOne used.old.items used.new.items) }
+        // What waited is in the file.
+        ensures fills { IfOk result (λ _. IfSome self.old.held (λ held.
+            IfSome self.old.file (λ before. IfSome self.new.file (λ after.
+            Appends (R.File.contents before) (R.File.contents after) held.bytes.items)))) }
+        ensures noted { IfOk result (λ _. NotesOne used.old.items used.new.items) }
     {
         self.open()?;
         let Some(file) = &mut self.file else {
@@ -171,7 +175,9 @@ impl<R: Files> Making<'_, R> {
     }
 
     /// Puts a new file in its place, with all its bytes stored.
-    fn put(&mut self) -> io::Result<()> {
+    fn put(&mut self) -> io::Result<()>
+        ensures { self.new.file ≡ self.old.file }
+    {
         let Some(part) = self.part.take() else {
             return Ok(());
         };
@@ -182,8 +188,11 @@ impl<R: Files> Making<'_, R> {
     }
 
     /// Puts the file in its place, with all its bytes stored, and notes that it is used.
-    pub(crate) fn finish(mut self, used: &mut Vec<Identity>) -> io::Result<()>
-        ensures { IfOk result (λ _. NotesOne used.old.items used.new.items) }
+    pub(crate) fn finish(&mut self, used: &mut Vec<Identity>) -> io::Result<()>
+        ensures fills { IfOk result (λ _. IfSome self.old.held (λ held.
+            IfSome self.old.file (λ before. IfSome self.new.file (λ after.
+            Appends (R.File.contents before) (R.File.contents after) held.bytes.items)))) }
+        ensures noted { IfOk result (λ _. NotesOne used.old.items used.new.items) }
     {
         match self.fill(used) {
             Ok(()) => self.put(),
