@@ -1,15 +1,17 @@
 -- What the work sheet of a feasible plan keeps.
-use Rattle.std.proofs.Common.{◌≡◌, ℕ, ◌+◌, ◌<◌, ◌≤◌, Bool, true, false, List, length, get_or, refl, sym, ap, subst, inl, inr, arith, All, Contains, IsSome, nat_eq}
+use Rattle.std.proofs.Common.{◌≡◌, ℕ, ◌+◌, ◌<◌, ◌≤◌, ◌&&◌, Bool, true, false, List, length, get_or, refl, sym, ap, subst, inl, inr, arith, All, Contains, IsSome, nat_eq}
 use Rattle.std.specs.List.{flat_map, zip, AllByRecursion as Each}
 use Rattle.std.proofs.Math.Nat.{mul-le-mul_right}
-use Rattle.std.proofs.lemmas.Bool.{cases_Bool, cases_order, le-leb, leb-true}
+use Rattle.std.proofs.lemmas.Bool.{and_from, cases_Bool, cases_order, le-leb, leb-true, or_right}
 use Rattle.std.proofs.lemmas.List.Elements.{All-from_recursion, Contains-get_or}
+use Rattle.std.proofs.lemmas.List.Folds.{list_any_at}
+use Rattle.std.proofs.lemmas.Slice.Eq.{bytes_eq-Decides}
 use Rattle.qc_ship.specs.Cells.{CellView, IsCell, is_on_deck}
 use Rattle.qc_model.specs.declared.schedule.Slot.{Slot}
 use Rattle.qc_model.specs.declared.task.Phase.{Phase}
 use Rattle.qc_model.specs.declared.task.Phase.TheVariants.{DeckOut, HoldOut, HoldIn, DeckIn}
 use Rattle.qc_model.specs.declared.task.Task.{Task}
-use Rattle.qc_model.specs.Instance.{Valid, no_task, task}
+use Rattle.qc_model.specs.Instance.{IsBefore, Valid, no_task, task}
 use Rattle.qc_model.specs.Rules.{Feasible, end_of, start_of}
 use Rattle.qc_model.specs.Tasks.{phase_rank}
 use Rattle.qc_ship.specs.Ship.{IsShip, ShipView, place_of_bay}
@@ -17,10 +19,11 @@ use Rattle.qc_stow.specs.Moves.{AreMoves, is_discharge, is_load}
 use Rattle.qc_stow.specs.declared.row.Move.{Move}
 use Rattle.qc_stow.specs.declared.row.Move.TheVariants.{Discharge, Load}
 use Rattle.qc_stow.specs.declared.row.Row.{Row}
-use Rattle.qc_tasks.specs.InstanceOf.{instance_of, moves_at, phase_with, phases, tasks_at, tasks_of, ticks_in}
+use Rattle.qc_tasks.specs.InstanceOf.{brings_back, discharges, instance_of, is_before, is_earlier_phase, is_restow, moves_at, phase_with, phases, tasks_at, tasks_of, ticks_in}
 use Rattle.qc_tasks.proofs.Lists.{each_flat_map, each_from}
+use Rattle.qc_tasks.proofs.PairFacts.{pairs_have}
 use Rattle.qc_tasks.proofs.ValidInstance.{valid_instance}
-use Rattle.qc_sheet.specs.Kept.{BeginBoth, Begins, IsDischarge, IsLoad, IsOver, IsWorkable}
+use Rattle.qc_sheet.specs.Kept.{BeginBoth, Begins, IsDischarge, IsLoad, IsOver, IsRestow, IsWorkable, phase_of}
 use Rattle.qc_sheet.specs.Order.{AreOrders, cell_at, is_over, no_row, order_of, row_at}
 use Rattle.qc_sheet.specs.SheetText.{WorkView, move_ticks, tick_at}
 use Rattle.qc_sheet.proofs.OnceLemmas.{told_once}
@@ -69,16 +72,6 @@ task_ticks ship rows =
     ]
 
 -- ---- phases
-
-rank_out : (k : Move) (deck : Bool) → is_discharge k ≡ true → phase_rank (phase_with k deck) ≤ 1
-rank_out Discharge true e = omega arith
-rank_out Discharge false e = omega arith
-rank_out Load deck e = cc e
-
-rank_in : (k : Move) (deck : Bool) → is_load k ≡ true → 2 ≤ phase_rank (phase_with k deck)
-rank_in Load true e = omega arith
-rank_in Load false e = omega arith
-rank_in Discharge deck e = cc e
 
 -- of two discharges the later phase is in the hold and the earlier on deck, of two loads the other way round
 out_places : (k l : Move) (d e : Bool) → is_discharge k ≡ true → is_discharge l ≡ true → phase_rank (phase_with l e) < phase_rank (phase_with k d) → (e ≡ true) × (d ≡ false)
@@ -152,9 +145,6 @@ module _ (ship : ShipView) (is : IsShip ship) (rows : List Row) (moves : AreMove
   later_phase : (i j : ℕ) → i < j → j < length w.inst.tasks → (task_of i).hatch ≡ (task_of j).hatch → phase_rank (task_of i).phase < phase_rank (task_of j).phase
   later_phase i j lt low hatch = let rank = valid.tasks.sorted i j lt low in omega (arith, rank, hatch)
 
-  deck : ℕ → Bool
-  deck n = is_on_deck (cell_at rows n)
-
   rank : (n j t : ℕ) → Begins w n j t → phase_rank (phase_with (row_at rows n).kind (is_on_deck (cell_at rows n))) ≡ phase_rank (task_of j).phase
   rank n j t b = rank_of rows (task_of j) n (mine n j t b)
 
@@ -185,26 +175,42 @@ module _ (ship : ShipView) (is : IsShip ship) (rows : List Row) (moves : AreMove
     ]
   ]
 
-  cleared : (m n s t : ℕ) → BeginBoth w m n s t → IsDischarge w m → IsLoad w n → s < t
-  cleared m n s t both out in' =
-      let low = rank_out (row_at rows m).kind (is_on_deck (cell_at rows m)) out in
-      let high = rank_in (row_at rows n).kind (is_on_deck (cell_at rows n)) in' in
+  in_phases : (m n s t : ℕ) → BeginBoth w m n s t → phase_rank (phase_of w m) < phase_rank (phase_of w n) → s < t
+  in_phases m n s t both lt =
       let rank_m = rank m _ s both.first in let rank_n = rank n _ t both.second in
       elim (cases_order both.first_task both.second_task) [
-        | inl same ↦ let e = ap (λ k. phase_rank (task_of k).phase) same in absurd (omega (arith, e, low, high, rank_m, rank_n))
+        | inl same ↦ let e = ap (λ k. phase_rank (task_of k).phase) same in absurd (omega (arith, e, lt, rank_m, rank_n))
         | inr other ↦ elim other [
           | inl below ↦ earlier_task m n _ _ s t both.first both.second both.one_hatch below
           | inr above ↦
               let higher = later_phase both.second_task both.first_task above both.first.task_low (sym both.one_hatch) in
-              absurd (omega (arith, higher, low, high, rank_m, rank_n))
+              absurd (omega (arith, higher, lt, rank_m, rank_n))
         ]
       ]
+
+  -- the task of a restow's discharge is before that of its load
+  restow_before : ship.ordered ≡ true → (m n i j s t : ℕ) → Begins w m i s → Begins w n j t → IsRestow w m n → IsBefore w.inst i j
+  restow_before ordered m n i j s t b c is' =
+      let im = mine m i s b in let in' = mine n j t c in
+      let id = (row_at rows n).id in
+      let off : discharges (task_of i) id (row_at rows m) ≡ true = and_from _ _ (and_from _ _ is'.off im.mine) ((bytes_eq-Decides _ _).1 is'.one_id) in
+      let some = list_any_at (discharges (task_of i) id) rows m no_row im.low off in
+      let back : brings_back rows (task_of i) (task_of j) (row_at rows n) ≡ true = and_from _ _ (and_from _ _ is'.back some) in'.mine in
+      let restow : is_restow (tasks_of ship rows) rows i j ≡ true = list_any_at (brings_back rows (task_of i) (task_of j)) rows n no_row in'.low back in
+      pairs_have (length (tasks_of ship rows)) (is_before (λ i j. ship.ordered && is_restow (tasks_of ship rows) rows i j) (tasks_of ship rows)) i j b.task_low c.task_low
+      (or_right (is_earlier_phase (task_of i) (task_of j)) _ (and_from _ _ ordered restow))
+
+  restows : ship.ordered ≡ true → (m n i j s t : ℕ) → Begins w m i s → Begins w n j t → IsRestow w m n → s < t
+  restows ordered m n i j s t b c is' =
+      let before = feasible.before i j b.task_low c.task_low (restow_before ordered m n i j s t b c is') in
+      omega (arith, (within m i s b).1, (within n j t c).0, before, some_ticks ship is (task_of i).phase)
 
   pub workable : IsWorkable w
   workable = record {
     once = λ n low. told_once ship is rows sched orders are feasible.crane_range n low (hatches n no_row low);
     lifted = lifted;
     set_down = set_down;
-    cleared = cleared;
+    phases = in_phases;
+    restows = restows;
     within = within;
   }

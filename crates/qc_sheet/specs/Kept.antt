@@ -1,9 +1,13 @@
 -- public: what the work sheet of every feasible plan keeps.
 use Rattle.std.specs.Prelude.{◌≡◌, ℕ, ◌+◌, ◌<◌, ◌≤◌, true, ◌==◌, List, length, count_by, slice_index}
 use Rattle.std.specs.List.{flat_map, range_with_len}
+use Rattle.qc_ship.specs.Cells.{is_on_deck}
+use Rattle.qc_model.specs.declared.task.Phase.{Phase}
 use Rattle.qc_model.specs.Instance.{task}
 use Rattle.qc_model.specs.Rules.{end_of, start_of}
+use Rattle.qc_model.specs.Tasks.{phase_rank}
 use Rattle.qc_stow.specs.Moves.{is_discharge, is_load}
+use Rattle.qc_tasks.specs.InstanceOf.{phase_with}
 use Rattle.qc_sheet.specs.Order.{cell_at, is_over, order_of, row_at}
 use Rattle.qc_sheet.specs.SheetText.{WorkView, crane_tasks, move_ticks, tick_at}
 
@@ -37,6 +41,16 @@ IsLoad w n = is_load (row_at w.rows n).kind ≡ true
 abbrev pub IsOver : WorkView → (m n : ℕ) → Type 0
 IsOver w m n = is_over (cell_at w.rows m) (cell_at w.rows n) ≡ true
 
+-- the phase of a move
+abbrev pub phase_of : WorkView → ℕ → Phase
+phase_of w n = phase_with (row_at w.rows n).kind (is_on_deck (cell_at w.rows n))
+
+-- move m takes off the container that move n puts back
+pub record IsRestow (w : WorkView) (m n : ℕ) : Type 0 where
+  pub off : IsDischarge w m
+  pub back : IsLoad w n
+  pub one_id : (row_at w.rows m).id ≡ (row_at w.rows n).id
+
 pub record IsWorkable (w : WorkView) : Type 0 where
   -- each move of the list stands once in the sheet
   pub once : (n : ℕ) → n < length w.rows → count_by (λ m. m == n) (moves_told w) ≡ 1
@@ -44,8 +58,11 @@ pub record IsWorkable (w : WorkView) : Type 0 where
   pub lifted : (m n s t : ℕ) → BeginBoth w m n s t → IsDischarge w m → IsDischarge w n → IsOver w m n → s < t
   -- of two loads of a hatch, the one that is over the other is set down later
   pub set_down : (m n s t : ℕ) → BeginBoth w m n s t → IsLoad w m → IsLoad w n → IsOver w m n → t < s
-  -- each discharge of a hatch comes before each of its loads
-  pub cleared : (m n s t : ℕ) → BeginBoth w m n s t → IsDischarge w m → IsLoad w n → s < t
+  -- in a hatch phase follows phase: off the deck, out of the hold, into the hold, onto the deck
+  pub phases : (m n s t : ℕ) → BeginBoth w m n s t → phase_rank (phase_of w m) < phase_rank (phase_of w n) → s < t
+  -- where restows are ordered, a container is lifted before it is set down again, in whichever hatch
+  pub restows : w.ship.ordered ≡ true
+      → (m n i j s t : ℕ) → Begins w m i s → Begins w n j t → IsRestow w m n → s < t
   -- each move begins and ends within its task
   pub within : (n j t : ℕ) → Begins w n j t
       → (start_of w.sched j ≤ t) × (t + move_ticks w.ship (task w.inst j).phase ≤ end_of w.inst w.sched j)

@@ -2,7 +2,8 @@
 //!
 //! `Sheet::new` orders the moves of every task by one sorting. As a lemma, of a feasible schedule:
 //! each move stands once, none is lifted from under another or set down before what it stands on,
-//! discharges come before loads, each within its task (`workable`).
+//! in a hatch phase follows phase, an ordered restow is off before it is put back, each within its
+//! task (`workable`).
 #![tactic(auto)]
 
 mod entry;
