@@ -1,6 +1,12 @@
 //! The program: a run over the files of the system and standard output.
 #![tactic(auto)]
 
+ghost use Rattle.std.specs.Prelude.{◌≡◌, ◌⊎◌, IfOk};
+ghost use Rattle.qc_run.specs.declared.status.Status.TheVariants as status;
+ghost use Rattle.qc_words.specs.Words.{texts};
+ghost use Rattle.qc_top.specs.Account.{IsRun};
+ghost use Rattle.qc_cli.specs.Edge.{IsEndOf, behind_quiet};
+
 use qc_io::{Shelf, Sink, WriteFault};
 use qc_num::OutOfMemory;
 use qc_progress::Progress;
@@ -33,10 +39,16 @@ fn words_or_none<R: Env + AllocGlobal>(rt: &R) -> Result<Vec<String>, OutOfMemor
 }
 
 /// The words behind `-q`, and whether it stands first.
-fn behind_quiet(words: &[String]) -> (bool, &[String]) {
-    match words.split_first() {
-        Some((first, rest)) if first.as_str() == "-q" => (true, rest),
-        _ => (false, words),
+fn behind_quiet(words: &[String]) -> (bool, &[String])
+    ensures { texts result.1.now ≡ behind_quiet (texts words.now) }
+{
+    let Some((first, rest)) = words.split_first() else {
+        return (false, words);
+    };
+    if first.as_str() == "-q" {
+        (true, rest)
+    } else {
+        (false, words)
     }
 }
 
@@ -47,7 +59,10 @@ fn run_over<S: Shelf, K: Sink, R: Eprint + AllocGlobal>(
     shelf: S,
     is_shown: bool,
     out: &mut K,
-) -> (Ended, S) {
+) -> (Ended, S)
+    ensures { IsRun (texts words.now) (S.Sink.view shelf) (S.Sink.view result.1)
+        (K.Sink.view out.old) (K.Sink.view out.new) result.0.status }
+{
     let mut told = Progress::new(shelf, rt, is_shown);
     let ended = run(rt.alloc(), words, &mut told, out);
     (ended, told.into_shelf())
@@ -61,6 +76,16 @@ fn is_closed(printing: Option<io::Error>) -> bool {
     }
 }
 
+/// The status of a run once what is held of its report is written out: that of a failed write where it can't be.
+fn once_written<K: Sink + Drop>(out: &mut Lines<K>, ended: Status) -> Status
+    ensures { (result ≡ ended) ⊎ (result ≡ status.WriteFault) }
+{
+    match out.flush() {
+        Ok(()) => ended,
+        Err(WriteFault) => Status::WriteFault,
+    }
+}
+
 /// The status of a run with these words over the files of the system and standard output, and whether who reads that has
 /// closed it. What is to be mended is said on standard error, unless `-q` stands first or nobody reads the report to its
 /// end, and where that is a terminal, how far the search has come.
@@ -71,19 +96,20 @@ fn status_of<R: Files + Print + Eprint + AllocGlobal>(
 ) -> Result<(Status, bool), OutOfMemory>
 where
     R::File: AsFd,
+    ensures { IfOk result (λ ended. IsEndOf (behind_quiet (texts words.now)) ended.0) }
 {
     let (is_quiet, words) = behind_quiet(words);
     let mut out = Lines::new(rt.alloc(), Output::new(io::writer(rt)))?;
     let is_shown = is_terminal && !is_quiet;
     let (mut ended, mut shelf) = run_over(rt, words, FileShelf::new(rt), is_shown, &mut out);
-    if let Err(WriteFault) = out.flush() {
-        ended.status = Status::WriteFault;
-    }
+    ended.status = once_written(&mut out, ended.status);
     let status = ended.status;
     let printing = out.to().why();
     let is_closed = is_closed(printing);
     if !is_quiet && !is_closed {
-        say_after(rt, words, &ended, &mut shelf, printing);
+        let trouble = shelf.trouble();
+        shelf.read_again();
+        say_after(rt, words, &ended, &mut shelf, trouble, printing);
     }
     drop(shelf);
     drop(out);

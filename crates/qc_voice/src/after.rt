@@ -1,15 +1,13 @@
-//! What is said after a run with the files of the system.
+//! What is said after a run on standard error.
 ghost use Rattle.std.specs.Prelude.{None};
 ghost use Rattle.qc_io.specs.Outside.{sink_view};
+ghost use Rattle.qc_voice.specs.Frame.{LeavesFiles};
 
 use crate::voice::explain;
-use qc_io::{Failed, Sink, fault, put_all};
+use qc_io::{Failed, Shelf, Sink, fault, put_all};
 use qc_page::Page;
 use qc_run::{Ended, Status};
-use qc_system::FileShelf;
 use std::io::{self, ErrorKind};
-use std::os::fd::AsFd;
-use std::rt::Files;
 
 /// Standard error as a sink. It tells no bytes.
 #[derive(Drop)]
@@ -69,25 +67,24 @@ fn say_unwritten(
     say_why(page, why)
 }
 
-/// Says what is to be mended after a run with these words that came to this, and what is worth a note. `printing` is what
-/// the system said of standard output.
-pub fn say_after<R: Files + Eprint + AllocGlobal>(
+/// Says what is to be mended after a run with these words that came to this, and what is worth a note. It reads files
+/// again for what they hold, and changes none. `trouble` is the file whose call failed last with what the system said,
+/// `printing` what it said of standard output.
+pub fn say_after<R: Eprint + AllocGlobal, S: Shelf>(
     rt: &R,
     words: &[String],
     ended: &Ended,
-    shelf: &mut FileShelf<'_, R>,
+    shelf: &mut S,
+    trouble: Option<(String, io::Error)>,
     printing: Option<io::Error>,
 )
-where
-    R::File: AsFd,
+    ensures { LeavesFiles (S.Sink.view shelf.old) (S.Sink.view shelf.new) }
 {
-    let trouble = shelf.trouble();
     let mut voice = Voice { rt, faults: 0 };
     let mut page = Page::new(rt.alloc());
     if ended.status == Status::WriteFault {
         say_unwritten(&mut page, trouble, printing);
     } else {
-        shelf.read_again();
         explain(rt.alloc(), words, ended, shelf, &mut voice);
         if ended.status == Status::ReadFault
             && let Some((_, why)) = trouble
