@@ -23,10 +23,11 @@ const LATEST: Tick = 68_719_476_736;
 /// At the beginning a later end isn't looked at.
 const MOST_LOW: Tick = 17_179_869_184;
 
-/// How often a local search of a way looks at what it has seen, and a further one of the better way.
-const LOOKS: u32 = 8_000;
+/// A local search of a way looks once at what it has seen for so many states of which the sweeps made the children, and
+/// a further one of the better way for so many: so both together take no longer than the sweeps.
+const STATES_A_LOOK: usize = 32;
 
-const MORE_LOOKS: u32 = 24_000;
+const STATES_A_FURTHER_LOOK: usize = 10;
 
 /// How many states a layer keeps, round by round.
 const WIDTHS: [usize; 4] = [16, 64, 256, 1024];
@@ -194,7 +195,8 @@ fn plan_of(
             round(alloc, inst, parts, &mut hunt, grain, width)?;
         }
     }
-    improve(alloc, inst, parts, hunt)
+    let states = effort.saturating_sub(hunt.effort);
+    improve(alloc, inst, parts, hunt, states)
 }
 
 /// The schedule that a further local search of a way comes to.
@@ -205,11 +207,12 @@ fn local_plan(
     way: Direction,
     start: &Start,
     low: Tick,
+    looks: usize,
 ) -> Result<Option<Going>, OutOfMemory>
     requires { part.now ≡ seen inst.now way }
     ensures { IfOk result (λ found. IfSome found (IsFirstPlan inst.now)) }
 {
-    let last = improved(alloc, part, start, low, MORE_LOOKS)?;
+    let last = improved(alloc, part, start, low, looks)?;
     schedule_of(alloc, inst, way, part.instance(), last.cranes.as_slice())
 }
 
@@ -220,18 +223,21 @@ fn improve(
     inst: &Instance,
     parts: &Parts,
     hunt: Hunt,
+    states: usize,
 ) -> Result<Option<Going>, OutOfMemory>
     requires parts { AreParts inst.now parts.now }
     requires best { IfSome hunt.best (IsFirstPlan inst.now) }
     ensures { IfOk result (λ found. IfSome found (IsFirstPlan inst.now)) }
 {
     let low = hunt.low();
-    let up = improved(alloc, &parts.up, &hunt.up, low, LOOKS)?;
-    let down = improved(alloc, &parts.down, &hunt.down, low, LOOKS)?;
+    let looks = states / STATES_A_LOOK;
+    let up = improved(alloc, &parts.up, &hunt.up, low, looks)?;
+    let down = improved(alloc, &parts.down, &hunt.down, low, looks)?;
+    let looks = states / STATES_A_FURTHER_LOOK;
     let found = if up.end <= down.end {
-        local_plan(alloc, inst, &parts.up, Direction::Up, &up, low)?
+        local_plan(alloc, inst, &parts.up, Direction::Up, &up, low, looks)?
     } else {
-        local_plan(alloc, inst, &parts.down, Direction::Down, &down, low)?
+        local_plan(alloc, inst, &parts.down, Direction::Down, &down, low, looks)?
     };
     Ok(better(inst, hunt.best, found))
 }

@@ -75,7 +75,7 @@ pub(crate) fn improved(
     part: &UpwardView,
     start: &Start,
     low: Tick,
-    looks: u32,
+    looks: usize,
 ) -> Result<Start, OutOfMemory> {
     let inst = part.instance();
     let mut starts = Starts::open(alloc, inst)?;
