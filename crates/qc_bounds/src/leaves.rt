@@ -2,8 +2,7 @@
 
 ghost use Rattle.std.specs.Prelude.{◌≡◌, ◌↔◌, ◌≤◌, [], IfSome, IsSome, IsTrue, MatchOption, length};
 ghost use Rattle.qc_close.specs.Crews.{IsCrewOf};
-ghost use Rattle.qc_model.specs.Closing.{IsClosable};
-ghost use Rattle.qc_model.specs.Early.{early};
+ghost use Rattle.qc_close.specs.Model.{IsClosable, early};
 ghost use Rattle.qc_num.specs.Bounds.{IsAtMost};
 ghost use Rattle.qc_num.specs.declared.bound.Bound.TheVariants.{Least};
 ghost use Rattle.qc_num.specs.Paths.{HasRoom};

@@ -2,10 +2,7 @@
 
 ghost use Rattle.std.specs.Prelude.{◌≤◌, List, MatchOption};
 ghost use Rattle.qc_close.specs.Crews.{IsCrewOf};
-ghost use Rattle.qc_model.specs.declared.decision.Decision.{Decision};
-ghost use Rattle.qc_model.specs.declared.limits.TheConstants.{MOST_START};
-ghost use Rattle.qc_model.specs.Closing.{IsWorkBound, IsWorkLate};
-ghost use Rattle.qc_model.specs.Instance.{InstanceView};
+ghost use Rattle.qc_close.specs.Model.{Decision, MOST_START, IsWorkBound, IsWorkLate, InstanceView};
 ghost use Rattle.qc_num.specs.Bounds.{IsAtMost};
 ghost use Rattle.qc_num.specs.declared.bound.Bound.TheVariants.{Least};
 ghost use Rattle.qc_bounds.specs.Work.{IsWorkShown};

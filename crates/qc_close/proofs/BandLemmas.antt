@@ -7,11 +7,9 @@ use Rattle.std.proofs.lemmas.Bool.{cases_lt, false≢true, leb-true}
 use Rattle.std.proofs.Math.Nat.{mul-sub}
 use Rattle.std.proofs.lemmas.Nat.{mul-le}
 use Rattle.std.proofs.lemmas.Int.{by_lt_z, clamps, ints}
-use Rattle.qc_model.specs.Bays.{bays_up}
-use Rattle.qc_model.specs.Instance.{InstanceView}
+use Rattle.qc_close.specs.Model.{bays_up, InstanceView, place}
 use Rattle.qc_model.proofs.Bays.{bays}
 use Rattle.qc_model.proofs.NodeLemmas.{T_true, true_T}
-use Rattle.qc_model.specs.Assignments.{place}
 use Rattle.qc_close.specs.Bands.{AreBelow, AreStacked, HasNone, IsBand, IsBandOf, IsFinding, IsFound, IsFloor, IsFloorOf, IsFoundFrom, IsNearest, IsOne, IsPlace, IsReach, IsStretch, Lies, may, widened}
 use Rattle.qc_close.specs.declared.packs.Band.{Band}
 

@@ -5,11 +5,7 @@ use Rattle.std.proofs.lemmas.Grind.{get_or-set_at}
 use Rattle.std.proofs.lemmas.List.{get_or-replicate, length-replicate, length-set}
 use Rattle.std.proofs.lemmas.List.FromFn.{fill_by_all, get_or-map-range_with_len, length-map-range_with_len}
 use Rattle.qc_dist.proofs.Assigned.{assigned_here, assigned_other}
-use Rattle.qc_model.specs.declared.decision.Decision.{Decision}
-use Rattle.qc_model.specs.declared.decision.Decision.TheVariants.{Assign}
-use Rattle.qc_model.specs.Instance.{InstanceView}
-use Rattle.qc_model.specs.Nodes.{assigned}
-use Rattle.qc_model.specs.Assignments.{crane_in, cranes_of, no_cranes}
+use Rattle.qc_close.specs.Model.{Decision, Assign, InstanceView, assigned, crane_in, cranes_of, no_cranes}
 
 module _ (inst : InstanceView) where
   -- no decision gives a task a crane

@@ -6,16 +6,7 @@ use Rattle.std.proofs.lemmas.List.{get_or-set_other, get_or-set_same, length-set
 use Rattle.std.proofs.lemmas.Nat.{mul-le}
 use Rattle.std.specs.Int.{int_max, int_min}
 use Rattle.std.specs.List.{range_with_len}
-use Rattle.qc_model.specs.declared.task.Phase.{Phase}
-use Rattle.qc_model.specs.declared.task.Phase.TheVariants.{DeckOut, HoldOut, HoldIn, DeckIn}
-use Rattle.qc_model.specs.declared.way.Trip.{Trip}
-use Rattle.qc_model.specs.Assignments.{AreInRange, crane_in, no_cranes}
-use Rattle.qc_model.specs.Bays.{at_least_zero, bays_between}
-use Rattle.qc_model.specs.Instance.{InstanceView, IsOnRail, Valid, bay_of, crane, task}
-use Rattle.qc_model.specs.Motion.{bay_ahead, bay_behind}
-use Rattle.qc_model.specs.Tasks.{phase_rank, task_rank}
-use Rattle.qc_model.specs.Ways.{stand, tasks_at, trip_along, trip_for, trip_from, trip_to}
-use Rattle.qc_model.specs.Work.{task_numbers}
+use Rattle.qc_close.specs.Model.{Phase, DeckOut, HoldOut, HoldIn, DeckIn, Trip, AreInRange, crane_in, no_cranes, at_least_zero, bays_between, InstanceView, IsOnRail, Valid, bay_of, crane, task, bay_ahead, bay_behind, phase_rank, task_rank, stand, tasks_at, trip_along, trip_for, trip_from, trip_to, task_numbers}
 use Rattle.qc_model.proofs.Bays.{bays}
 use Rattle.qc_model.proofs.LimitsOf.{counted, limits_of}
 use Rattle.qc_close.specs.Bars.{Changes}

@@ -1,8 +1,7 @@
 //! Tasks that may bar the way of cranes next to theirs.
 
 ghost use Rattle.std.specs.Prelude.{◌≡◌, ◌+◌, ◌-◌, ◌*◌, ◌<◌, ◌≤◌, ◌^◌, List, Option, ℕ, IfOk, filter, length, replicate, slice_index, slice_set};
-ghost use Rattle.qc_model.specs.Assignments.{no_cranes};
-ghost use Rattle.qc_model.specs.Work.{task_numbers};
+ghost use Rattle.qc_close.specs.Model.{no_cranes, task_numbers};
 ghost use Rattle.qc_close.specs.Bars.{AreSmall, AreSums, Changes, Everywhere, From, IsTable, UpTo, bars_of, joined, no_bars, own_in, row_at, sum_before, sum_from};
 ghost use Rattle.qc_close.specs.Spots.{AreSoonest, AreSpots};
 

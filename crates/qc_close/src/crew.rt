@@ -1,9 +1,7 @@
 //! Which crane has which task.
 
 ghost use Rattle.std.specs.Prelude.{◌≡◌, ◌||◌, ◌<◌, ◌≤◌, ℕ, List, Option, None, Some, IfOk, IsSome, OnOk, length, replicate, slice_set, true};
-ghost use Rattle.qc_model.specs.Instance.{Valid};
-ghost use Rattle.qc_model.specs.Assignments.{AreInRange, crane_in, no_cranes};
-ghost use Rattle.qc_model.specs.Closed.{is_closed, is_short_along, is_short_before};
+ghost use Rattle.qc_close.specs.Model.{Valid, AreInRange, crane_in, no_cranes, is_closed, is_short_along, is_short_before};
 ghost use Rattle.qc_close.specs.Bars.{Changes, IsTable};
 ghost use Rattle.qc_close.specs.Crews.{CrewView};
 ghost use Rattle.qc_close.specs.CrewFields.{view_of, IsKept};

@@ -2,8 +2,7 @@
 
 ghost use Rattle.std.specs.Prelude.{◌≡◌, ◌+◌, ◌*◌, ◌<◌, ◌≤◌, false, true};
 ghost use Rattle.qc_close.specs.Lasts.{IsLatest};
-ghost use Rattle.qc_model.specs.declared.limits.TheConstants.{MOST_START};
-ghost use Rattle.qc_model.specs.Closed.{is_closed};
+ghost use Rattle.qc_close.specs.Model.{MOST_START, is_closed};
 
 use crate::crew::Crew;
 use qc_model::MOST_START;

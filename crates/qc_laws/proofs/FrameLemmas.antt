@@ -7,22 +7,9 @@ use Rattle.std.proofs.lemmas.Int.{by_lt_z, int_max_is, int_min_is, ints}
 use Rattle.std.specs.Int.{int_max, int_min}
 use Rattle.std.specs.List.{list_any, range_with_len}
 use Rattle.std.specs.Option.{option_map_or}
-use Rattle.qc_model.specs.declared.frame.Frame.{Frame}
-use Rattle.qc_model.specs.declared.schedule.Slot.{Slot}
-use Rattle.qc_model.specs.Bays.{at_least_zero, bays_between, bays_up}
-use Rattle.qc_model.specs.Instance.{InstanceView, Valid, bay_of, crane, ticks_of}
-use Rattle.qc_model.specs.Work.{highest, lowest, task_numbers, ticks_over}
-use Rattle.qc_model.specs.OneWay.{GoesUp}
-use Rattle.qc_model.specs.Rules.{Feasible, crane_of, ends, start_of}
-use Rattle.qc_model.specs.Ticks.{arrival}
+use Rattle.qc_close.specs.Model.{Frame, Slot, at_least_zero, bays_between, bays_up, InstanceView, Valid, bay_of, crane, ticks_of, highest, lowest, task_numbers, ticks_over, GoesUp, Feasible, crane_of, ends, start_of, arrival, Up, Down, Turn, OneWay, Free, Follows, crane_in, bays_to, GoesBy, frame, frame_of, own, turn_bays, turn_high}
 use Rattle.qc_model.proofs.Bays.{bays}
 use Rattle.qc_model.proofs.LimitsOf.{counted}
-use Rattle.qc_model.specs.declared.direction.Direction.TheVariants.{Up, Down}
-use Rattle.qc_model.specs.declared.turn.Turn.{Turn}
-use Rattle.qc_model.specs.declared.turn.Turn.TheVariants.{OneWay, Free}
-use Rattle.qc_model.specs.Assignments.{Follows, crane_in}
-use Rattle.qc_model.specs.Closed.{bays_to}
-use Rattle.qc_model.specs.Frames.{GoesBy, frame, frame_of, own, turn_bays, turn_high}
 use Rattle.qc_close.proofs.CountLemmas.{sum_filter, sums_within, some_term}
 use Rattle.qc_close.proofs.Members.{Among, among_filter, among_range, any_at, any_from, filter_among, first_of, range_among}
 use Rattle.qc_laws.proofs.PackLemmas.{ends_in}

@@ -6,18 +6,7 @@ use Rattle.std.proofs.lemmas.Int.{by_lt_z, int_max_is, int_min_is, ints}
 use Rattle.std.proofs.lemmas.Nat.{mul-le}
 use Rattle.std.specs.Int.{int_max, int_min}
 use Rattle.std.specs.List.{list_all, range_with_len}
-use Rattle.qc_model.specs.declared.frame.Frame.{Frame}
-use Rattle.qc_model.specs.declared.schedule.Slot.{Slot}
-use Rattle.qc_model.specs.declared.turn.Turn.{Turn}
-use Rattle.qc_model.specs.declared.turn.Turn.TheVariants.{OneWay, Free}
-use Rattle.qc_model.specs.Assignments.{Follows, crane_in}
-use Rattle.qc_model.specs.Barred.{all_done, barred_frame, barring, both_done, done_in, lies, own_or_left}
-use Rattle.qc_model.specs.Bays.{at_least_zero, bays_between, bays_up}
-use Rattle.qc_model.specs.Frames.{GoesBy, frame, frame_of, own, turn_high}
-use Rattle.qc_model.specs.Instance.{InstanceView, Valid, bay_of, crane}
-use Rattle.qc_model.specs.Motion.{scaled}
-use Rattle.qc_model.specs.Rules.{Feasible, crane_of, ends, start_of}
-use Rattle.qc_model.specs.Work.{highest, lowest, task_numbers, ticks_over}
+use Rattle.qc_close.specs.Model.{Frame, Slot, Turn, OneWay, Free, Follows, crane_in, all_done, barred_frame, barring, both_done, done_in, lies, own_or_left, at_least_zero, bays_between, bays_up, GoesBy, frame, frame_of, own, turn_high, InstanceView, Valid, bay_of, crane, scaled, Feasible, crane_of, ends, start_of, highest, lowest, task_numbers, ticks_over, frame_along, longest_way, own_bays, own_way, tasks_at, trip_along, trip_from, way_at, way_frame, Trip, Way}
 use Rattle.qc_model.proofs.Bays.{bays}
 use Rattle.qc_model.proofs.Scaled.{scaled_le}
 use Rattle.qc_close.proofs.Extremes.{among_done, greatest_among}
@@ -25,9 +14,6 @@ use Rattle.qc_laws.proofs.BarredLemmas.{barred_time}
 use Rattle.qc_laws.proofs.FrameLemmas.{HasTime, at_bay, beside, does_open, feasible_by, on_open, own_on, sums}
 use Rattle.qc_close.proofs.LoopLemmas.{least_steps}
 use Rattle.qc_close.proofs.Members.{Among, among_filter, among_range, filter_among, map_among, range_among}
-use Rattle.qc_model.specs.Ways.{frame_along, longest_way, own_bays, own_way, tasks_at, trip_along, trip_from, way_at, way_frame}
-use Rattle.qc_model.specs.declared.way.Trip.{Trip}
-use Rattle.qc_model.specs.declared.way.Way.{Way}
 use Rattle.qc_laws.proofs.Paths.{cut, cut_at, goes_beyond, moved, scaled_up}
 use Rattle.qc_laws.proofs.Tracks.{allows, goes_soon, spent, starts_within, track, waits, works}
 use Rattle.qc_laws.proofs.Trips.{AreTimely, HasGone, goes_along, high_rises, low_falls, stays_within, timely_from}

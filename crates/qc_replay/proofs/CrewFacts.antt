@@ -4,11 +4,7 @@ use Rattle.qc_close.specs.Crews.{CrewView, IsCrewOf}
 use Rattle.qc_close.proofs.DecidedCranes.{crane_decided, cranes_none, cranes_put, cranes_taken}
 use Rattle.qc_dist.proofs.Assigned.{assigned_here}
 use Rattle.qc_dist.specs.Node.{IsOpen, Node}
-use Rattle.qc_model.specs.declared.decision.Decision.{Decision}
-use Rattle.qc_model.specs.declared.decision.Decision.TheVariants.{Assign}
-use Rattle.qc_model.specs.Assignments.{crane_in, no_cranes}
-use Rattle.qc_model.specs.Instance.{InstanceView}
-use Rattle.qc_model.specs.Nodes.{assigned}
+use Rattle.qc_close.specs.Model.{Decision, Assign, crane_in, no_cranes, InstanceView, assigned}
 use Rattle.qc_replay.specs.declared.earliest.EarlyStarts.{EarlyStarts}
 use Rattle.qc_replay.specs.Crewed.{WereOpen}
 use Rattle.qc_replay.specs.Earliest.{HasEarly}

@@ -1,8 +1,7 @@
 //! What leaves show at a node.
 ghost use Rattle.std.specs.Prelude.{◌≡◌, ◌+◌, ◌*◌, ◌<◌, ◌≤◌, ◌++◌, ◌^◌, ℕ, List, None, All, IfSome, MatchOption, length, option_map, take};
 ghost use Rattle.qc_close.specs.Crews.{IsCrewOf};
-ghost use Rattle.qc_model.specs.Numbers.{most_distance, most_tasks, most_work};
-ghost use Rattle.qc_model.specs.Leaves.{chain_end, chain_ticks, is_ring, packed_end, work_over};
+ghost use Rattle.qc_close.specs.Model.{most_distance, most_tasks, most_work, chain_end, chain_ticks, is_ring, packed_end, work_over};
 ghost use Rattle.qc_replay.specs.Earliest.{HasEarly};
 ghost use Rattle.qc_replay.specs.Part.{IsNumber};
 ghost use Rattle.qc_replay.specs.Walk.{from_file};

@@ -3,17 +3,7 @@ use Rattle.std.proofs.Common.{◌≡◌, ℕ, zero, suc, ◌+◌, ◌<◌, ◌�
 use Rattle.std.proofs.lemmas.Option.{same_Some}
 use Rattle.std.proofs.lemmas.Bool.{and_parts, cond-true, cond_both, eq-eqb, eqb-true, false≢true, le-leb, leb-true, or_cases, or_left, or_right}
 use Rattle.std.specs.List.{range_with_len}
-use Rattle.qc_model.specs.declared.decision.Decision.{Decision}
-use Rattle.qc_model.specs.declared.decision.Decision.TheVariants.{Assign, Order}
-use Rattle.qc_model.specs.declared.pair.Pair.{Pair}
-use Rattle.qc_model.specs.declared.schedule.Slot.{Slot}
-use Rattle.qc_model.specs.declared.turn.Turn.{Turn}
-use Rattle.qc_model.specs.declared.turn.Turn.TheVariants.{OneWay, Free}
-use Rattle.qc_model.specs.Frames.{GoesBy}
-use Rattle.qc_model.specs.Instance.{InstanceView, Valid, pair_of, ticks_of}
-use Rattle.qc_model.specs.Work.{task_numbers}
-use Rattle.qc_model.specs.Nodes.{Agrees, AreLeast, Conflicts, Fits, IsComplete, IsInReach, Meets, assigned, crane_ticks, forced, head_by, is_before, is_ordered, is_sooner, pair_ticks, schedule_with, sooner_ticks}
-use Rattle.qc_model.specs.Rules.{IsClear, crane_of, end_of, start_of, starts}
+use Rattle.qc_close.specs.Model.{Decision, Assign, Order, Pair, Slot, Turn, OneWay, Free, GoesBy, InstanceView, Valid, pair_of, ticks_of, task_numbers, Agrees, AreLeast, Conflicts, Fits, IsComplete, IsInReach, Meets, assigned, crane_ticks, forced, head_by, is_before, is_ordered, is_sooner, pair_ticks, schedule_with, sooner_ticks, IsClear, crane_of, end_of, start_of, starts}
 use Rattle.qc_model.proofs.CompleteNodes.{agrees_with, goes_least, greater_first, greater_second, starts_with}
 use Rattle.qc_model.proofs.NodeLemmas.{IsStep, assigned_is, greater_keeps, if_some, meets_by, ordered_is}
 use Rattle.qc_dist.proofs.Assigned.{assigned_other, ordered_here}

@@ -4,11 +4,7 @@ use Rattle.qc_close.specs.Crews.{CrewView, IsCrewOf}
 use Rattle.qc_close.proofs.DecidedCranes.{crane_decided, cranes_none, cranes_put, cranes_taken}
 use Rattle.qc_dist.proofs.Assigned.{assigned_here}
 use Rattle.qc_dist.specs.Node.{IsOpen, newest, Node}
-use Rattle.qc_model.specs.declared.decision.Decision.{Decision}
-use Rattle.qc_model.specs.declared.decision.Decision.TheVariants.{Assign, Order}
-use Rattle.qc_model.specs.Assignments.{crane_in, no_cranes}
-use Rattle.qc_model.specs.Instance.{InstanceView, Valid}
-use Rattle.qc_model.specs.Nodes.{Fits, assigned}
+use Rattle.qc_close.specs.Model.{Decision, Assign, Order, crane_in, no_cranes, InstanceView, Valid, Fits, assigned}
 use Rattle.qc_model.proofs.NodeLemmas.{unsettled_unordered}
 use Rattle.qc_starts.specs.Seen.{first_of}
 use Rattle.qc_search.specs.Places.{IsPlaced, node_of}

@@ -6,11 +6,7 @@ use Rattle.qc_io.specs.Outside.{View}
 use Rattle.qc_num.specs.declared.bound.Bound.{Bound}
 use Rattle.qc_num.specs.declared.bound.Bound.TheVariants.{Least, Never}
 use Rattle.qc_num.specs.Bounds.{IsAtMost}
-use Rattle.qc_model.specs.declared.direction.Direction.{Direction}
-use Rattle.qc_model.specs.declared.schedule.Slot.{Slot}
-use Rattle.qc_model.specs.Instance.{InstanceView, Valid}
-use Rattle.qc_model.specs.Rules.{ends}
-use Rattle.qc_model.specs.Seen.{seen_schedule}
+use Rattle.qc_close.specs.Model.{Direction, Slot, InstanceView, Valid, ends, seen_schedule}
 use Rattle.qc_tree.specs.Trees.{NoneEarlier, tree_branchings, tree_value}
 use Rattle.qc_tree.proofs.TreeBound.{tree_bound}
 use Rattle.qc_search.specs.declared.progress.Progress.{Progress}

@@ -1,10 +1,7 @@
 use Rattle.std.proofs.Common.{◌≡◌, ℕ, ◌+◌, ◌<◌, inl, inr, List, sym, subst, ◌∙◌, arith}
 use Rattle.std.proofs.lemmas.Bool.{cases_eq, false≢true}
 use Rattle.qc_dist.specs.Node.{Node}
-use Rattle.qc_model.specs.declared.decision.Decision.{Decision}
-use Rattle.qc_model.specs.declared.schedule.Slot.{Slot}
-use Rattle.qc_model.specs.Instance.{InstanceView}
-use Rattle.qc_model.specs.Nodes.{Agrees, Conflicts, IsSettled, assigned}
+use Rattle.qc_close.specs.Model.{Decision, Slot, InstanceView, Agrees, Conflicts, IsSettled, assigned}
 use Rattle.qc_search.proofs.OrderLemmas.{conflict_moves}
 use Rattle.qc_search.proofs.given.order_below.Goals as goal
 use Rattle.qc_search.proofs.given.order_below.Goals.{then-conflict, else-conflict}

@@ -1,6 +1,5 @@
 use Rattle.std.proofs.Common.{◌∷◌, ap, ◌∙◌}
-use Rattle.qc_model.specs.declared.decision.Decision.{Decision}
-use Rattle.qc_model.specs.declared.decision.Decision.TheVariants.{Assign, Order}
+use Rattle.qc_close.specs.Model.{Decision, Assign, Order}
 use Rattle.qc_search.proofs.PlaceLemmas.{crew_none, crew_ordered, crew_put, fits_more, opened, placed}
 use Rattle.qc_search.proofs.place.Node.go.Goals as goal
 
