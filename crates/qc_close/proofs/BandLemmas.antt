@@ -324,13 +324,6 @@ found_far inst cranes tasks i low x y z o inside one is n e same over high up li
     by None over most = absurd (false≢true over)
     by (Some m) over most = omega (arith, leb-true m n over, most)
 
--- and one that has none
-pub found_none : (inst : InstanceView) (cranes : List (Option ℕ)) (tasks : List ℕ) (i : ℕ) (low y : ℤ) (o : Option ℕ)
-    → i < length tasks → ((high : ℤ) → ¬ Lies inst cranes y high (get_or tasks i 0)) → y ≡ low
-    → IsFoundFrom inst cranes tasks o low
-found_none inst cranes tasks i low y o inside none is high up lie =
-    absurd (none high (subst (λ (x : ℤ). Lies inst cranes x high (get_or tasks i 0)) (sym is) (lie i inside)))
-
 -- on stacked cranes the tasks of all cranes above lie below a place
 pub below_place : (inst : InstanceView) (cranes : List (Option ℕ)) (tasks : List ℕ)
     → AreStacked inst cranes tasks (length inst.cranes) → (k w : ℕ) (y : ℤ) → k < length tasks

@@ -524,11 +524,3 @@ module _ (inst : InstanceView) (cranes : List (Option ℕ)) (range : AreInRange 
   pack_is (j ∷ js) n t s found =
       cond-true (is_packed inst cranes (j ∷ js)) _ None t
       ∙ ap (λ m. Some (ticks_over inst (j ∷ js) + inst.travel * m)) (span_is inst cranes range j js n s found)
-
--- a stretch is no longer than the ship and the gaps
-pub stretch_few : (inst : InstanceView) (cranes : List (Option ℕ)) (tasks : List ℕ) (n : ℕ) → IsStretch inst cranes tasks n
-    → n ≤ 60000
-stretch_few inst cranes tasks n s =
-    let near = s.near in
-    let is = s.is in
-    omega (arith, bays, near.0.0, near.0.1, near.1.0, near.1.1, is)

@@ -306,9 +306,6 @@ pub record AreKept (new : ℕ → Trip) (olds cells : List Trip) (spot count : �
   pub done : (w : ℕ) → w < count → get_or cells (240 * w + spot) no_trip ≡ new w
   pub others : (i : ℕ) → ((w : ℕ) → w < count → i ≢ 240 * w + spot) → get_or cells i no_trip ≡ get_or olds i no_trip
 
-pub none_kept : (new : ℕ → Trip) (olds : List Trip) (spot : ℕ) → length olds ≡ 1920 → AreKept new olds olds spot 0
-none_kept new olds spot many = record { many = many; done = λ w low. absurd (omega arith); others = λ i _. refl }
-
 pub one_kept : (new : ℕ → Trip) (olds cells : List Trip) (spot count : ℕ) (v : Trip) → AreKept new olds cells spot count
     → spot < 240 → count < 8 → v ≡ new count → AreKept new olds (set cells (240 * count + spot) v) spot (count + 1)
 one_kept new olds cells spot count v before low few is = record {

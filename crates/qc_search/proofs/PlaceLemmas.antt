@@ -60,10 +60,6 @@ module _ (inst : InstanceView) where
       → IsCrewOf crew inst (Order i j ∷ ds)
   crew_ordered ds crew i j is = record { same = is.same; turn = is.turn; cranes = is.cranes }
 
-  pub crew_unordered : (ds : List Decision) (crew : CrewView) (i j : ℕ) → IsCrewOf crew inst (Order i j ∷ ds)
-      → IsCrewOf crew inst ds
-  crew_unordered ds crew i j is = record { same = is.same; turn = is.turn; cranes = is.cranes }
-
 -- the newest decision, and those before it
 pub newest_older : (ds : List Decision) (d : Decision) (mark : ℕ) → newest ds ≡ Some d → mark ≡ length ds
     → ds ≡ d ∷ first_of (mark - 1) ds
