@@ -1,5 +1,5 @@
 -- The highest of a place and some holds.
-use Rattle.std.proofs.Common.{◌≡◌, ℕ, zero, suc, ◌<◌, ℤ, ◌≤ℤ◌, ◌⊎◌, inl, inr, refl, subst, ◌∙◌, arith}
+use Rattle.std.proofs.Common.{◌≡◌, ℕ, zero, suc, ◌<◌, ℤ, ◌≤ℤ◌, ◌⊎◌, inl, inr, refl, sym, ap, subst, ◌∙◌, arith}
 use Rattle.std.proofs.lemmas.Bool.{cases_lt}
 use Rattle.std.proofs.lemmas.Int.{by_lt_z, clamps, ints}
 use Rattle.std.specs.Int.{int_max}
@@ -60,3 +60,6 @@ module _ (h : ℕ → Hold) (z : ℤ) (m : ℕ) where
       before : IsTaken n → top (suc n) ≡ top n → IsTaken (suc n)
       before (by_floor f) e = by_floor (e ∙ f)
       before (by_hold i low f) e = by_hold i (omega arith) (e ∙ f)
+
+  pub highest_next : (n k : ℕ) → suc n ≡ k → top k ≡ int_max (top n) (held (h n) m)
+  highest_next n k e = ap top (sym e)

@@ -3,7 +3,7 @@ use Rattle.std.proofs.Common.{◌≡◌, ℕ, ◌+◌, ◌-◌, ◌*◌, ◌<◌
 use Rattle.std.proofs.lemmas.Bool.{cases_lt}
 use Rattle.std.proofs.lemmas.Int.{by_lt_z, ints}
 use Rattle.std.proofs.lemmas.List.{get_or_append_left, get_or_push, length-append, map-append}
-use Rattle.std.proofs.lemmas.List.Elements.{All-contains, All-map, All-push, All-weaker, Contains-append_cases, Contains-append_left, Contains-append_right}
+use Rattle.std.proofs.lemmas.List.Elements.{All-contains, All-map, All-nil, All-push, All-weaker, Contains-append_cases, Contains-append_left, Contains-append_right}
 use Rattle.qc_model.specs.Rules.{ends}
 use Rattle.qc_freemove.specs.declared.track.HalfPoint.{HalfPoint}
 use Rattle.qc_freemove.specs.FreeMotion.{IsFreePlace}
@@ -201,6 +201,15 @@ contains_cases points w m c =
     only (k, low, e) = let none : k ≡ 0 = omega arith in subst (λ (i : ℕ). get_or (w.at ∷ []) i m ≡ m) none e
 
 module _ (it : FreeSwept) where
+  pub none_yet : AreSoFar it [] 0
+  none_yet = record {
+    rising = λ i j d low high. absurd (omega arith);
+    early = All-nil (λ (w : HalfPoint). w.at < 0);
+    kept = All-nil (λ (w : HalfPoint). IsKept it w.at);
+    places = All-nil (λ (w : HalfPoint). w.place ≡ place_at it w.at);
+    all = λ m low. absurd (omega arith);
+  }
+
   -- where all steps are the same there is no turn
   straight : (at e end m : ℕ) → IsEven it at e end → at < m → m < e → ¬ IsKept it m
   straight at e end m even k low (inl none) = absurd (omega arith)

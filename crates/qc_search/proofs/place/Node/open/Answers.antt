@@ -1,7 +1,7 @@
 use Rattle.std.proofs.Common.{List, sym, ap, subst, ◌∙◌}
 use Rattle.qc_close.specs.Crews.{CrewView, IsCrewOf}
 use Rattle.qc_close.specs.Model.{Decision, Turn, no_cranes, InstanceView, Fits}
-use Rattle.qc_search.proofs.PlaceLemmas.{crew_root}
+use Rattle.qc_close.proofs.DecidedCranes.{crew_root}
 use Rattle.qc_search.proofs.place.Node.open.Goals as goal
 
 abbrev root_crew : InstanceView → CrewView
