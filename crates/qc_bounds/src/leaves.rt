@@ -69,7 +69,7 @@ pub fn close(node: &Starts, crew: &Crew, best: Bound, path: &mut Path) -> Option
     ensures count { length path.new.items ≤ length node.now.inst.tasks }
     ensures room { path.new.capacity ≡ path.old.capacity }
 {
-    let _inst = node.instance();
+    let _inst = node.instance(); // for what it ensures
     if node.stuck() {
         node.cycle(path);
         return Some(LeafKind::Ring);
@@ -97,7 +97,7 @@ pub fn spent(node: &Starts, crew: &Crew, path: &mut Path) -> LeafKind
     ensures count { length path.new.items ≤ length node.now.inst.tasks }
     ensures room { path.new.capacity ≡ path.old.capacity }
 {
-    let _inst = node.instance();
+    let _inst = node.instance(); // for what it ensures
     if node.stuck() {
         node.cycle(path);
         return LeafKind::Ring;

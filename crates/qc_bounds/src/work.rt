@@ -18,7 +18,7 @@ pub fn work_bound(crew: &Crew) -> Tick
         → IsWorkBound inst ds result }
     ensures soon { result ≤ MOST_START }
 {
-    let _inst = crew.instance();
+    let _inst = crew.instance(); // for what it ensures
     crew.latest_closed()
 }
 
@@ -28,7 +28,7 @@ pub(crate) fn late_work(crew: &Crew, bound: Bound) -> Option<Tick>
     ensures { (inst : InstanceView) (ds : List Decision) → IsCrewOf crew.now inst ds
         → MatchOption result (¬ IsWorkLate inst ds bound) (IsWorkShown inst ds bound) }
 {
-    let _inst = crew.instance();
+    let _inst = crew.instance(); // for what it ensures
     match bound {
         Bound::Never => None,
         Bound::Least(end) => {

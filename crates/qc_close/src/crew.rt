@@ -132,7 +132,7 @@ fn crew_of(inst: Instance, turn: Turn, lists: Lists) -> Crew
     requires { AreLists inst lists }
     ensures { result ≡ record { inst = inst; turn = turn; cranes = no_cranes inst } }
 {
-    let _tasks = inst.task_count();
+    let _tasks = inst.task_count(); // for what it ensures
     let step = grain(&inst);
     let bare = last_short_end(
         &inst,
@@ -211,7 +211,7 @@ impl Crew {
         match find_lists(alloc, &kept, &mut lists) {
             Ok(()) => Ok(crew_of(kept, turn, lists)),
             Err(OutOfMemory) => {
-                drop(lists);
+                drop(lists); // by name: proved faster
                 drop(kept);
                 Err(OutOfMemory)
             }

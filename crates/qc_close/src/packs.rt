@@ -211,7 +211,7 @@ impl Crew {
             ((high : ℤ) → ¬ Lies self.now.inst self.now.cranes low high task)
             (IsNearest self.now.inst self.now.cranes low task) }
     {
-        let _inst = self.instance();
+        let _inst = self.instance(); // for what it ensures
         for above in 0..cranes {
             let crane = cranes - 1 - above;
             if self.may(task, crane) {

@@ -90,7 +90,7 @@ fn longest_way(
         → usual.high ≡ (frame inst.now turn cranes crane).high → own ≡ own_way inst.now turn cranes crane
         → result ≡ longest_way inst.now turn cranes crane }
 {
-    let _cranes = inst.crane_count();
+    let _cranes = inst.crane_count(); // for what it ensures
     let mut way = own;
     for spot in 0..spots.bays.len() {
         let trip = trips.cells[240 * crane as usize + spot];

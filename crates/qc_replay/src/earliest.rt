@@ -116,7 +116,7 @@ impl EarlyStarts {
             (least_starts node.now.inst node.now.decisions) }
         ensures bound { IfSome result (λ tick. tick ≤ most_start) }
     {
-        let _inst = node.instance();
+        let _inst = node.instance(); // for what it ensures
         if self.are_none() {
             None
         } else {

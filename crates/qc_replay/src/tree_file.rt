@@ -50,7 +50,7 @@ pub fn replay<S: Shelf>(
 {
     let mut walk = Walk::new(alloc, inst)?;
     let read = read_file(alloc, &mut walk, shelf, name);
-    drop(walk);
+    drop(walk); // by name: proved faster
     read
 }
 
