@@ -1,5 +1,5 @@
 -- Decisions as a schedule has them: what they are open for, and what they settle.
-use Rattle.std.proofs.Common.{◌≡◌, ℕ, ◌-◌, ◌<◌, inl, inr, Bool, true, false, List, [], ◌∷◌, length, get_or, Contains, ◌⊎◌, Option, None, Some, IfSome, IsSome, refl, ap, subst, ◌∙◌, arith, is_some, nat_le, sym, ◌≤◌, if◌then◌else◌}
+use Rattle.std.proofs.Common.{◌≡◌, ℕ, ◌-◌, ◌<◌, inl, inr, Bool, true, false, List, [], ◌∷◌, length, get_or, Contains, ◌⊎◌, Option, None, Some, IfSome, IsSome, refl, ap, subst, arith, is_some, nat_le, sym, ◌≤◌, if◌then◌else◌}
 use Rattle.std.proofs.lemmas.Bool.{and_from, cond_both, false_from_ne_true, false≢true, le-leb, leb-true}
 use Rattle.std.proofs.lemmas.List.{drop_all}
 use Rattle.qc_dist.specs.Node.{IsOpen}
@@ -113,22 +113,6 @@ module _ (inst : InstanceView) (sched : List Slot) (p : Pair) (ds : List Decisio
         | inl h ↦ inr h
         | inr h ↦ inl h
       ]
-
--- tasks that conflict do so whatever is decided that leaves their cranes
-pub conflict_moves : (inst : InstanceView) (ds es : List Decision) → ((j : ℕ) → assigned es j ≡ assigned ds j) → (i j : ℕ)
-    → Conflicts inst ds i j → Conflicts inst es i j
-conflict_moves inst ds es same i j (inl at) = inl at
-conflict_moves inst ds es same i j (inr clash) = inr (record {
-  free = clash.free;
-  first = clash.first;
-  second = clash.second;
-  differ = clash.differ;
-  first_crane = clash.first_crane;
-  second_crane = clash.second_crane;
-  of_first = same i ∙ clash.of_first;
-  of_second = same j ∙ clash.of_second;
-  near = clash.near;
-})
 
 module _ (inst : InstanceView) (v : Valid inst) (ds : List Decision) (sched : List Slot) (given : AreAssigned inst ds)
     (agrees : Agrees inst ds sched) where
