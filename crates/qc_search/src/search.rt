@@ -48,7 +48,7 @@ impl Drop for Search {
 }
 
 /// What a search came to that began with this end, for an instance with so many cranes.
-fn told(progress: Progress, first: Bound, cranes: u16) -> Done
+fn done_of(progress: Progress, first: Bound, cranes: u16) -> Done
     requires { (end : ℕ) → progress.incumbent_end ≡ Least end
         → All (λ slot. slot.crane < cranes) progress.incumbent }
     ensures { result ≡ record {
@@ -131,6 +131,6 @@ impl Search {
         let cranes = roots.instance().crane_count();
         let first = progress.incumbent_end;
         roots.write(&mut progress, sink)?;
-        Ok(told(progress, first, cranes))
+        Ok(done_of(progress, first, cranes))
     }
 }
