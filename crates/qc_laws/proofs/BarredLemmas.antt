@@ -13,9 +13,8 @@ use Rattle.qc_model.proofs.Bays.{bays}
 use Rattle.qc_model.proofs.Extremes.{greatest_le}
 use Rattle.qc_model.proofs.NodeLemmas.{one_crane_apart, true_T}
 use Rattle.qc_close.proofs.CountLemmas.{sum_filter, sums_within}
-use Rattle.qc_laws.proofs.FrameLemmas.{beyond}
+use Rattle.qc_laws.proofs.FrameLemmas.{beyond, HasTime, arrives, at_bay, beside, does_open, feasible_by, has_time, parts}
 use Rattle.qc_close.proofs.Extremes.{highest_to, lowest_from, among_done, greatest_among, highest_at, lowest_at}
-use Rattle.qc_laws.proofs.FrameLemmas.{HasTime, arrives, at_bay, beside, does_open, feasible_by, has_time, parts}
 use Rattle.qc_close.proofs.LoopLemmas.{least_steps}
 use Rattle.qc_close.proofs.Members.{Among, all_at, among_filter, among_map, among_range, filter_among, first_of, least_at, range_among}
 use Rattle.qc_close.proofs.SpanLemmas.{higher_distance, lower_distance}
