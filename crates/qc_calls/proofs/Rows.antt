@@ -3,7 +3,18 @@
 -- cranes k places apart keep 2 k bays between them; where bays are missing, one goes clear of the other by as many ticks.
 use Rattle.std.proofs.Common.{◌≡◌, ℕ, ◌+◌, pos, true, false, List, [], ◌∷◌, codes, None, Some, is_some, inl, inr, refl, sym, ap, ◌∙◌}
 use Rattle.std.proofs.lemmas.Bool.{false≢true}
-use Rattle.qc_close.specs.Model.{Decision, Assign, Order, OneWay, Phase, DeckOut, HoldOut, Task, Crane, Pair, InstanceView, bay_of, ticks_of, crane, pair_of, IsSettled, assigned, forced, free, head, reaches, mirror, task_distance, travel_between}
+use Rattle.qc_model.specs.declared.decision.Decision.{Decision}
+use Rattle.qc_model.specs.declared.decision.Decision.TheVariants.{Assign, Order}
+use Rattle.qc_model.specs.declared.turn.Turn.TheVariants.{OneWay}
+use Rattle.qc_model.specs.declared.task.Phase.{Phase}
+use Rattle.qc_model.specs.declared.task.Phase.TheVariants.{DeckOut, HoldOut}
+use Rattle.qc_model.specs.declared.task.Task.{Task}
+use Rattle.qc_model.specs.declared.crane.Crane.{Crane}
+use Rattle.qc_model.specs.declared.pair.Pair.{Pair}
+use Rattle.qc_model.specs.Instance.{InstanceView, bay_of, ticks_of, crane, pair_of}
+use Rattle.qc_model.specs.Nodes.{IsSettled, assigned, forced, free, head, reaches}
+use Rattle.qc_model.specs.OneWay.{mirror}
+use Rattle.qc_model.specs.Ticks.{task_distance, travel_between}
 
 -- a crane that works from one bay to another
 abbrev reaching : List ℕ → ℕ → ℕ → ℕ → ℕ → Crane

@@ -3,7 +3,10 @@ use Rattle.std.proofs.lemmas.Bool.{cases_lt}
 use Rattle.std.proofs.lemmas.Grind.{get_or-set_at}
 use Rattle.std.proofs.lemmas.List.{length-set}
 use Rattle.std.proofs.lemmas.List.FromFn.{fill_by_all}
-use Rattle.qc_close.specs.Model.{Decision, crane_in, InstanceView, assigned}
+use Rattle.qc_model.specs.declared.decision.Decision.{Decision}
+use Rattle.qc_model.specs.Assignments.{crane_in}
+use Rattle.qc_model.specs.Instance.{InstanceView}
+use Rattle.qc_model.specs.Nodes.{assigned}
 use Rattle.qc_close.specs.Crews.{CrewView}
 use Rattle.qc_calls.proofs.crew.crew_by.Goals as goal
 use Rattle.qc_calls.proofs.crew.crew_by.Goals.{in-Some, in_default}

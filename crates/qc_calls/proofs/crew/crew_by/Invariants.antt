@@ -1,5 +1,6 @@
 use Rattle.std.proofs.Common.{◌≡◌, ◌<◌, ◌≤◌, ℕ, None, length}
-use Rattle.qc_close.specs.Model.{crane_in, assigned}
+use Rattle.qc_model.specs.Assignments.{crane_in}
+use Rattle.qc_model.specs.Nodes.{assigned}
 use Rattle.qc_calls.proofs.crew.crew_by.Given as goal
 
 abbrev pub invariant-loop-task : goal.invariant-loop-task
