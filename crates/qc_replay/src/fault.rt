@@ -37,6 +37,7 @@ impl From<OutOfMemory> for ReplayError {
 }
 
 impl From<AllocError> for ReplayError {
+    ghost use Rattle.qc_replay.specs.declared.fault.ReplayError.TheVariants.{OutOfMemory};
 
     ghost from_gives = { λ _ error. error ≡ OutOfMemory };
 
