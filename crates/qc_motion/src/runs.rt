@@ -4,7 +4,8 @@ ghost use Rattle.std.specs.Prelude.{◌+◌, ◌≤◌, ◌<◌, ◌↔◌, leng
 ghost use Rattle.qc_model.specs.declared.limits.TheConstants.{MOST_END};
 ghost use Rattle.qc_model.specs.Rules.{start_of};
 ghost use Rattle.qc_model.specs.Limits.{IsPlaceNear};
-ghost use Rattle.qc_motion.specs.Sweep.{HoldsAt, IsAt, IsBelow, IsBerthAt, IsFirst, IsHeld, IsHigher, IsLast, IsOnRise, IsRun, IsSound, descent, floor_place, passing, ready_of, stopping};
+ghost use Rattle.qc_motion.specs.Sweep.{HoldsAt, IsAt, IsBelow, IsBerthAt, IsFirst, IsHeld, IsHigher, IsLast};
+ghost use Rattle.qc_motion.specs.Sweep.{IsOnRise, IsRun, IsSound, descent, floor_place, passing, ready_of, stopping};
 
 use crate::sweep::Sweep;
 use qc_num::Tick;

@@ -6,6 +6,7 @@ ghost use Rattle.qc_model.specs.Instance.{IsOnRail, Valid, crane as crane_at};
 ghost use Rattle.qc_model.specs.Limits.{IsPlaceNear, IsNearRail};
 ghost use Rattle.qc_model.specs.Motion.{bay_ahead, scaled};
 ghost use Rattle.qc_model.specs.Judge.{IsJudgeable, Goes};
+ghost use Rattle.qc_model.specs.Motion.{scaled};
 ghost use Rattle.qc_model.specs.Rules.{crane_of, start_of};
 ghost use Rattle.qc_model.specs.Seen.{seen, seen_schedule, seen_number};
 ghost use Rattle.qc_motion.specs.Sweep.{IsSound, Swept, IsAt, IsFelt, IsHighest, berth_hold, floor_place, task_hold};

@@ -1,6 +1,6 @@
 -- `pop` reads the last cell, and its place is room again. Assumes `Logic`.
 use Rattle.std.proofs.Common.{◌≡◌, ℕ, suc, ◌+◌, ◌*◌, ◌^◌, ◌<◌, List, [], ◌∷◌, ◌++◌, length, refl, sym, ap, ◌∙◌, arith, w64, None, get_or, take, length-take-le}
-use Rattle.qc_arena.proofs.Rows.{all_but_last, row_less}
+use Rattle.qc_arena.proofs.Rows.{all_but_last}
 use Rattle.std.specs.Mem.{type_size}
 use mir.Syntax.{Fn}
 use mir.Val.{Val, vptr, vint}
@@ -32,6 +32,7 @@ use Rattle.qc_arena.specs.contracts.block.Block as B
 use Rattle.qc_arena.specs.contracts.block.Cell.{the_row as R}
 use Rattle.qc_arena.specs.contracts.block.Block.pop as f
 use Rattle.qc_arena.specs.contracts.block.Block.pop.Key.{name as #self}
+use Rattle.qc_arena.proofs.Rows.{row_less}
 use Rattle.qc_arena.proofs.block.Block.TheLaws.{lowers as block_lowers}
 use Rattle.qc_arena.proofs.block.Block.pop.Statement.{statement}
 use Rattle.qc_arena.proofs.block.Block.pop.Code as code
