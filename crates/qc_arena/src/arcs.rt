@@ -1,3 +1,5 @@
+//! The arcs of a graph, kept in one block, pushed and popped as a stack.
+
 ghost use Rattle.std.specs.Prelude.{◌≡◌, ◌↔◌, ◌<◌, [], ◌∷◌, ◌++◌, IfOk, IsSome, None, length, replicate, map, vec_len};
 ghost use Rattle.std.specs.Option.{option_to_list};
 ghost use Rattle.qc_arena.specs.Arcs.{leaving, entering, Arcs};

@@ -1,3 +1,5 @@
+//! Numbers in a fixed number of cells.
+
 ghost use Rattle.std.specs.Prelude.{◌≡◌, ◌<◌, ◌≤◌, length, IfOk, replicate, slice_index, slice_set, take, ℕ, List};
 
 use qc_num::OutOfMemory;

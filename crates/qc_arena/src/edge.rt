@@ -1,3 +1,5 @@
+//! One arc.
+
 use qc_num::Tick;
 
 /// An arc from one node to another. Nodes are numbered from 0.

@@ -1,3 +1,5 @@
+//! What cells held before they were written, so that they can be put back.
+
 ghost use Rattle.std.specs.Prelude.{◌≡◌, ◌<◌, ◌≤◌, [], ◌∷◌, ◌++◌, All, length, take, drop, IfOk};
 ghost use Rattle.qc_arena.specs.Trails.{written_back, Notes};
 ghost use Rattle.qc_arena.specs.Room.{HasRoom};

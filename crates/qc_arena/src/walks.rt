@@ -1,3 +1,5 @@
+//! The arcs that leave a node, and those that enter it.
+
 ghost use Rattle.std.specs.Prelude.{◌≡◌, length};
 ghost use Rattle.std.specs.Iterator.{YieldsFirst, item_count};
 ghost use Rattle.qc_arena.specs.Chains.{IsAhead, side_arcs};

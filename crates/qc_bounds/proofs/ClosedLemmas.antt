@@ -4,14 +4,7 @@ use Rattle.std.proofs.lemmas.Bool.{and_from, cond-true, false≢true, le-leb}
 use Rattle.qc_num.specs.Bounds.{IsAtMost}
 use Rattle.qc_num.specs.declared.bound.Bound.{Bound}
 use Rattle.qc_num.specs.declared.bound.Bound.TheVariants.{Least, Never}
-use Rattle.qc_model.specs.declared.decision.Decision.{Decision}
-use Rattle.qc_model.specs.declared.decision.Decision.TheVariants.{Assign, Order}
-use Rattle.qc_model.specs.declared.limits.TheConstants.{MOST_START}
-use Rattle.qc_model.specs.Closing.{IsClosable, IsWorkBound, IsWorkLate, out_of_reach, no_starts, complete, ends_late, work_late}
-use Rattle.qc_model.specs.Instance.{InstanceView}
-use Rattle.qc_model.specs.Leaves.{is_out_of_reach, work_over}
-use Rattle.qc_model.specs.Nodes.{HasStarts, IsComplete, IsInReach, IsNodeEnd}
-use Rattle.qc_model.specs.Rules.{last_end}
+use Rattle.qc_close.specs.Model.{Decision, Assign, Order, MOST_START, IsClosable, IsWorkBound, IsWorkLate, out_of_reach, no_starts, complete, ends_late, work_late, InstanceView, is_out_of_reach, work_over, HasStarts, IsComplete, IsInReach, IsNodeEnd, last_end}
 use Rattle.qc_model.proofs.Bounded.{last_end_le}
 use Rattle.qc_model.proofs.NodeLemmas.{ends_by}
 use Rattle.qc_starts.specs.Seen.{IsWhy}

@@ -3,14 +3,7 @@ use Rattle.std.proofs.Common.{◌≡◌, ℕ, ◌+◌, List, map, Option, None, 
 use Rattle.std.specs.Option.{option_map_or}
 use Rattle.qc_num.specs.declared.bound.Bound.TheVariants.{Least}
 use Rattle.qc_close.specs.Crews.{CrewView, IsCrewOf}
-use Rattle.qc_model.specs.declared.decision.Decision.{Decision}
-use Rattle.qc_model.specs.declared.turn.Turn.TheVariants.{OneWay, Free}
-use Rattle.qc_model.specs.Assignments.{cranes_of}
-use Rattle.qc_model.specs.Early.{early, early_by, least_starts}
-use Rattle.qc_model.specs.Instance.{InstanceView, Valid}
-use Rattle.qc_model.specs.Leaves.{packed_end}
-use Rattle.qc_model.specs.Nodes.{AreLeast, HasStarts, IsComplete, IsInReach, IsNodeEnd, head, least}
-use Rattle.qc_model.specs.Packs.{pack}
+use Rattle.qc_close.specs.Model.{Decision, OneWay, Free, cranes_of, early, early_by, least_starts, InstanceView, Valid, packed_end, AreLeast, HasStarts, IsComplete, IsInReach, IsNodeEnd, head, least, pack}
 use Rattle.qc_model.proofs.CompleteNodes.{least_same}
 use Rattle.qc_model.proofs.LeastStarts.{early_one_way, early_some, found_of}
 use Rattle.qc_starts.specs.Seen.{IsNodeStart}

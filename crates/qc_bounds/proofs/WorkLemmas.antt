@@ -7,12 +7,7 @@ use Rattle.qc_close.specs.Crews.{CrewView, IsCrewOf}
 use Rattle.qc_close.specs.Lasts.{IsLatest}
 use Rattle.qc_close.proofs.KeptLemmas.{closed_falls}
 use Rattle.qc_close.proofs.LimitLemmas.{closed_soon}
-use Rattle.qc_model.specs.declared.decision.Decision.{Decision}
-use Rattle.qc_model.specs.declared.limits.TheConstants.{MOST_START}
-use Rattle.qc_model.specs.Assignments.{AreInRange, cranes_of}
-use Rattle.qc_model.specs.Closed.{is_closed}
-use Rattle.qc_model.specs.Closing.{IsWorkBound, IsWorkLate}
-use Rattle.qc_model.specs.Instance.{InstanceView, Valid}
+use Rattle.qc_close.specs.Model.{Decision, MOST_START, AreInRange, cranes_of, is_closed, IsWorkBound, IsWorkLate, InstanceView, Valid}
 use Rattle.qc_bounds.specs.Work.{IsWorkShown}
 
 module _ (crew : CrewView) (inst : InstanceView) (ds : List Decision) (of : IsCrewOf crew inst ds) where

@@ -3,12 +3,7 @@ use Rattle.std.specs.Prelude.{◌≡◌, ℕ, ◌<◌, ◌≤◌, ◌⊎◌, Lis
 use Rattle.qc_num.specs.Bounds.{IsAtMost}
 use Rattle.qc_num.specs.declared.bound.Bound.{Bound}
 use Rattle.qc_num.specs.declared.bound.Bound.TheVariants.{Least}
-use Rattle.qc_model.specs.declared.decision.Decision.{Decision}
-use Rattle.qc_model.specs.declared.limits.TheConstants.{MOST_START}
-use Rattle.qc_model.specs.Closing.{IsWorkBound}
-use Rattle.qc_model.specs.Instance.{InstanceView}
-use Rattle.qc_model.specs.Leaves.{leaf_value, packed, work}
-use Rattle.qc_model.specs.Nodes.{HasStarts, IsComplete, IsNodeEnd}
+use Rattle.qc_close.specs.Model.{Decision, MOST_START, IsWorkBound, InstanceView, leaf_value, packed, work, HasStarts, IsComplete, IsNodeEnd}
 use Rattle.qc_starts.specs.Seen.{IsCycle, IsWhy}
 use Rattle.qc_bounds.specs.declared.leaves.LeafKind.{LeafKind}
 use Rattle.qc_bounds.specs.declared.leaves.LeafKind.TheVariants.{Chain, Clash, Ring, Work}

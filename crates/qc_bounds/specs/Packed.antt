@@ -1,11 +1,7 @@
 -- inner: packed tasks that show when a node ends at the soonest.
 use Rattle.std.specs.Prelude.{◌≡◌, ℕ, ◌+◌, ◌*◌, ◌≤◌, List, Some}
 use Rattle.std.specs.Option.{option_map_or}
-use Rattle.qc_model.specs.declared.decision.Decision.{Decision}
-use Rattle.qc_model.specs.declared.limits.TheConstants.{MOST_DISTANCE, MOST_START, MOST_TASKS, MOST_WORK}
-use Rattle.qc_model.specs.Early.{early}
-use Rattle.qc_model.specs.Instance.{InstanceView}
-use Rattle.qc_model.specs.Leaves.{packed_end}
+use Rattle.qc_close.specs.Model.{Decision, MOST_DISTANCE, MOST_START, MOST_TASKS, MOST_WORK, early, InstanceView, packed_end}
 
 -- from when a task can start; 0 where that isn't known
 abbrev pub early_at : InstanceView → List Decision → ℕ → ℕ

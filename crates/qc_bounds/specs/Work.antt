@@ -2,10 +2,7 @@
 use Rattle.std.specs.Prelude.{◌≡◌, ℕ, ◌≤◌, List, Some}
 use Rattle.qc_num.specs.declared.bound.Bound.{Bound}
 use Rattle.qc_num.specs.declared.bound.Bound.TheVariants.{Least}
-use Rattle.qc_model.specs.declared.decision.Decision.{Decision}
-use Rattle.qc_model.specs.declared.limits.TheConstants.{MOST_START}
-use Rattle.qc_model.specs.Instance.{InstanceView}
-use Rattle.qc_model.specs.Leaves.{leaf_value, work}
+use Rattle.qc_close.specs.Model.{Decision, MOST_START, InstanceView, leaf_value, work}
 
 -- the bound is this end, and the work shows it
 pub record IsWorkShown (inst : InstanceView) (ds : List Decision) (bound : Bound) (end : ℕ) : Type 0 where

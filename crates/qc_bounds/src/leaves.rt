@@ -2,8 +2,7 @@
 
 ghost use Rattle.std.specs.Prelude.{◌≡◌, ◌↔◌, ◌≤◌, [], IfSome, IsSome, IsTrue, MatchOption, length};
 ghost use Rattle.qc_close.specs.Crews.{IsCrewOf};
-ghost use Rattle.qc_model.specs.Closing.{IsClosable};
-ghost use Rattle.qc_model.specs.Early.{early};
+ghost use Rattle.qc_close.specs.Model.{IsClosable, early};
 ghost use Rattle.qc_num.specs.Bounds.{IsAtMost};
 ghost use Rattle.qc_num.specs.declared.bound.Bound.TheVariants.{Least};
 ghost use Rattle.qc_num.specs.Paths.{HasRoom};
@@ -70,7 +69,7 @@ pub fn close(node: &Starts, crew: &Crew, best: Bound, path: &mut Path) -> Option
     ensures count { length path.new.items ≤ length node.now.inst.tasks }
     ensures room { path.new.capacity ≡ path.old.capacity }
 {
-    let _inst = node.instance();
+    let _inst = node.instance(); // for what it ensures
     if node.stuck() {
         node.cycle(path);
         return Some(LeafKind::Ring);
@@ -98,7 +97,7 @@ pub fn spent(node: &Starts, crew: &Crew, path: &mut Path) -> LeafKind
     ensures count { length path.new.items ≤ length node.now.inst.tasks }
     ensures room { path.new.capacity ≡ path.old.capacity }
 {
-    let _inst = node.instance();
+    let _inst = node.instance(); // for what it ensures
     if node.stuck() {
         node.cycle(path);
         return LeafKind::Ring;

@@ -3,10 +3,7 @@
 ghost use Rattle.std.specs.Prelude.{◌≡◌, ◌<◌, ◌≤◌, All, IfSome, IsSome, length, map, min};
 ghost use Rattle.std.specs.Option.{option_map_or};
 ghost use Rattle.qc_close.specs.Crews.{IsCrewOf};
-ghost use Rattle.qc_model.specs.declared.limits.TheConstants.{MOST_START};
-ghost use Rattle.qc_model.specs.Early.{early};
-ghost use Rattle.qc_model.specs.Leaves.{packed_end};
-ghost use Rattle.qc_model.specs.Nodes.{least};
+ghost use Rattle.qc_close.specs.Model.{MOST_START, early, packed_end, least};
 ghost use Rattle.qc_bounds.specs.Packed.{IsPackedFrom, IsSoon, early_at};
 
 use crate::spread::spread;

@@ -2,8 +2,7 @@
 
 ghost use Rattle.std.specs.Prelude.{◌≡◌, ◌+◌, ◌≤◌, IfSome, IsSome, length};
 ghost use Rattle.qc_close.specs.Crews.{IsCrewOf};
-ghost use Rattle.qc_model.specs.declared.limits.TheConstants.{MOST_START};
-ghost use Rattle.qc_model.specs.Early.{early};
+ghost use Rattle.qc_close.specs.Model.{MOST_START, early};
 ghost use Rattle.qc_num.specs.Paths.{HasRoom};
 ghost use Rattle.qc_bounds.specs.Packed.{IsPackedFrom};
 

@@ -2,10 +2,7 @@
 
 ghost use Rattle.std.specs.Prelude.{◌≤◌, List, MatchOption};
 ghost use Rattle.qc_close.specs.Crews.{IsCrewOf};
-ghost use Rattle.qc_model.specs.declared.decision.Decision.{Decision};
-ghost use Rattle.qc_model.specs.declared.limits.TheConstants.{MOST_START};
-ghost use Rattle.qc_model.specs.Closing.{IsWorkBound, IsWorkLate};
-ghost use Rattle.qc_model.specs.Instance.{InstanceView};
+ghost use Rattle.qc_close.specs.Model.{Decision, MOST_START, IsWorkBound, IsWorkLate, InstanceView};
 ghost use Rattle.qc_num.specs.Bounds.{IsAtMost};
 ghost use Rattle.qc_num.specs.declared.bound.Bound.TheVariants.{Least};
 ghost use Rattle.qc_bounds.specs.Work.{IsWorkShown};
@@ -21,7 +18,7 @@ pub fn work_bound(crew: &Crew) -> Tick
         → IsWorkBound inst ds result }
     ensures soon { result ≤ MOST_START }
 {
-    let _inst = crew.instance();
+    let _inst = crew.instance(); // for what it ensures
     crew.latest_closed()
 }
 
@@ -31,7 +28,7 @@ pub(crate) fn late_work(crew: &Crew, bound: Bound) -> Option<Tick>
     ensures { (inst : InstanceView) (ds : List Decision) → IsCrewOf crew.now inst ds
         → MatchOption result (¬ IsWorkLate inst ds bound) (IsWorkShown inst ds bound) }
 {
-    let _inst = crew.instance();
+    let _inst = crew.instance(); // for what it ensures
     match bound {
         Bound::Never => None,
         Bound::Least(end) => {

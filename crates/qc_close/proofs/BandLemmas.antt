@@ -7,11 +7,9 @@ use Rattle.std.proofs.lemmas.Bool.{cases_lt, false≢true, leb-true}
 use Rattle.std.proofs.Math.Nat.{mul-sub}
 use Rattle.std.proofs.lemmas.Nat.{mul-le}
 use Rattle.std.proofs.lemmas.Int.{by_lt_z, clamps, ints}
-use Rattle.qc_model.specs.Bays.{bays_up}
-use Rattle.qc_model.specs.Instance.{InstanceView}
+use Rattle.qc_close.specs.Model.{bays_up, InstanceView, place}
 use Rattle.qc_model.proofs.Bays.{bays}
 use Rattle.qc_model.proofs.NodeLemmas.{T_true, true_T}
-use Rattle.qc_model.specs.Assignments.{place}
 use Rattle.qc_close.specs.Bands.{AreBelow, AreStacked, HasNone, IsBand, IsBandOf, IsFinding, IsFound, IsFloor, IsFloorOf, IsFoundFrom, IsNearest, IsOne, IsPlace, IsReach, IsStretch, Lies, may, widened}
 use Rattle.qc_close.specs.declared.packs.Band.{Band}
 
@@ -325,13 +323,6 @@ found_far inst cranes tasks i low x y z o inside one is n e same over high up li
     by : (o : Option ℕ) → option_map_or (λ m. nat_le m n) o false ≡ true → n ≤ bays_up low high → IsFound o (bays_up low high)
     by None over most = absurd (false≢true over)
     by (Some m) over most = omega (arith, leb-true m n over, most)
-
--- and one that has none
-pub found_none : (inst : InstanceView) (cranes : List (Option ℕ)) (tasks : List ℕ) (i : ℕ) (low y : ℤ) (o : Option ℕ)
-    → i < length tasks → ((high : ℤ) → ¬ Lies inst cranes y high (get_or tasks i 0)) → y ≡ low
-    → IsFoundFrom inst cranes tasks o low
-found_none inst cranes tasks i low y o inside none is high up lie =
-    absurd (none high (subst (λ (x : ℤ). Lies inst cranes x high (get_or tasks i 0)) (sym is) (lie i inside)))
 
 -- on stacked cranes the tasks of all cranes above lie below a place
 pub below_place : (inst : InstanceView) (cranes : List (Option ℕ)) (tasks : List ℕ)

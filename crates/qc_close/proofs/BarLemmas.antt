@@ -6,13 +6,7 @@ use Rattle.std.proofs.lemmas.List.Sums.{sum_by-cons}
 use Rattle.std.specs.Int.{int_max, int_min}
 use Rattle.std.specs.List.{list_all, range_with_len}
 use Rattle.std.specs.Option.{option_map_or}
-use Rattle.qc_model.specs.declared.limits.TheConstants.{MOST_DISTANCE, MOST_READY, MOST_WORK}
-use Rattle.qc_model.specs.declared.turn.Turn.{Turn}
-use Rattle.qc_model.specs.Assignments.{crane_in}
-use Rattle.qc_model.specs.Barred.{both_done, lies, soonest}
-use Rattle.qc_model.specs.Instance.{InstanceView, IsOnRail, Valid, bay_of, task, ticks_of}
-use Rattle.qc_model.specs.Nodes.{free, least}
-use Rattle.qc_model.specs.Work.{highest, lowest, task_numbers, ticks_over}
+use Rattle.qc_close.specs.Model.{MOST_DISTANCE, MOST_READY, MOST_WORK, Turn, crane_in, both_done, lies, soonest, InstanceView, IsOnRail, Valid, bay_of, task, ticks_of, free, least, highest, lowest, task_numbers, ticks_over}
 use Rattle.qc_model.proofs.NodeLemmas.{T_true, true_T}
 use Rattle.qc_model.proofs.OnRail.{ticks_bounded}
 use Rattle.qc_close.specs.Bars.{AreSmall, IsGrid, bars_before, bars_from, bars_of, cell, done_by, in_row, high_of, joined, lie_in, low_of, no_bars, own_in, row_at, row_before, row_from, soonest_of, sum_before, sum_from, together}

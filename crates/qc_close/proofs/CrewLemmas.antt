@@ -10,14 +10,7 @@ use Rattle.std.proofs.lemmas.List.{get_or-set_other, get_or-set_same, length-rep
 use Rattle.std.proofs.lemmas.List.FromFn.{fill_by_all, get_or-map-range_with_len, length-map-range_with_len}
 use Rattle.std.proofs.lemmas.List.Sums.{sum_by-cons}
 use Rattle.std.specs.List.{range_with_len}
-use Rattle.qc_model.specs.declared.frame.Frame.{Frame}
-use Rattle.qc_model.specs.declared.limits.TheConstants.{MOST_TASKS, MOST_WORK}
-use Rattle.qc_model.specs.declared.task.Task.{Task}
-use Rattle.qc_model.specs.Assignments.{crane_in, no_cranes}
-use Rattle.qc_model.specs.Bays.{at_least_zero}
-use Rattle.qc_model.specs.Closed.{Try, grain, is_short, last_before, left_at, left_bays, try_with, work_at}
-use Rattle.qc_model.specs.Instance.{InstanceView, Valid, bay_of, task, ticks_of}
-use Rattle.qc_model.specs.Work.{crane_numbers, task_numbers, ticks_over}
+use Rattle.qc_close.specs.Model.{Frame, MOST_TASKS, MOST_WORK, Task, crane_in, no_cranes, at_least_zero, Try, grain, is_short, last_before, left_at, left_bays, try_with, work_at, InstanceView, Valid, bay_of, task, ticks_of, crane_numbers, task_numbers, ticks_over}
 use Rattle.qc_model.proofs.Bays.{bays}
 use Rattle.qc_model.proofs.LimitsOf.{limits_of}
 use Rattle.qc_model.proofs.OnRail.{ticks_bounded}

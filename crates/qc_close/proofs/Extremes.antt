@@ -2,11 +2,7 @@
 use Rattle.std.proofs.Common.{[], ◌≡◌, ℕ, max, inl, inr, List, ◌∷◌, Option, ℤ, ◌≤ℤ◌, refl, ap, subst, arith, filter}
 use Rattle.std.proofs.lemmas.Bool.{cases_lt}
 use Rattle.std.proofs.lemmas.Int.{int_max_is, int_min_is, ints}
-use Rattle.qc_model.specs.declared.turn.Turn.{Turn}
-use Rattle.qc_model.specs.Barred.{all_done, done_in, lies}
-use Rattle.qc_model.specs.Instance.{InstanceView, bay_of}
-use Rattle.qc_model.specs.Nodes.{greatest}
-use Rattle.qc_model.specs.Work.{highest, lowest, task_numbers}
+use Rattle.qc_close.specs.Model.{Turn, all_done, done_in, lies, InstanceView, bay_of, greatest, highest, lowest, task_numbers}
 use Rattle.qc_close.proofs.Members.{Among, flat_among}
 
 -- what comes of each stretch of a crane comes of all of them

@@ -6,11 +6,7 @@ use Rattle.std.proofs.lemmas.Bool.{and_from, and_parts, cases_lt, eq-eqb, eqb-tr
 use Rattle.std.proofs.lemmas.Nat.Gcd.{dvd_of_mod-eq-zero, dvd_trans, le_of_dvd, mod-eq-zero_of_dvd}
 use Rattle.std.specs.Int.{IsGcd}
 use Rattle.std.specs.List.{list_all, range_with_len}
-use Rattle.qc_model.specs.declared.crane.Crane.{Crane}
-use Rattle.qc_model.specs.declared.task.Task.{Task}
-use Rattle.qc_model.specs.Closed.{are_multiples, grain}
-use Rattle.qc_model.specs.Instance.{InstanceView, Valid, crane, no_crane, no_task, task, ticks_of}
-use Rattle.qc_model.specs.Nodes.{greatest}
+use Rattle.qc_close.specs.Model.{Crane, Task, are_multiples, grain, InstanceView, Valid, crane, no_crane, no_task, task, ticks_of, greatest}
 use Rattle.qc_model.proofs.LimitsOf.{travel_of}
 use Rattle.qc_close.specs.Grains.{IsGrainOf}
 use Rattle.qc_close.proofs.Members.{Among, all_at, all_from, among_filter, among_range, filter_among, range_among}

@@ -4,17 +4,7 @@ use Rattle.std.proofs.Math.IntN.{nat_abs}
 use Rattle.std.proofs.lemmas.Bool.{cases_eq, le-leb, lt-leb, or_cases, or_left, or_right}
 use Rattle.std.proofs.lemmas.Int.{ints}
 use Rattle.std.proofs.lemmas.List.{get_or_read, get_or-set_other, get_or-set_same, length-replicate, length-set}
-use Rattle.qc_model.specs.declared.limits.TheConstants.{MOST_DISTANCE, MOST_READY, MOST_TASKS, MOST_WORK}
-use Rattle.qc_model.specs.declared.task.Task.{Task}
-use Rattle.qc_model.specs.declared.turn.Turn.{Turn}
-use Rattle.qc_model.specs.Assignments.{AreInRange, crane_in, no_cranes}
-use Rattle.qc_model.specs.Barred.{barred_frame}
-use Rattle.qc_model.specs.Bays.{at_least_zero}
-use Rattle.qc_model.specs.Closed.{grain, is_closed, is_short_along, is_short_before, last_before, left_bays, work_at}
-use Rattle.qc_model.specs.Instance.{InstanceView, Valid, bay_of, task, ticks_of}
-use Rattle.qc_model.specs.Nodes.{free}
-use Rattle.qc_model.specs.Ways.{way_frame}
-use Rattle.qc_model.specs.Work.{crane_numbers}
+use Rattle.qc_close.specs.Model.{MOST_DISTANCE, MOST_READY, MOST_TASKS, MOST_WORK, Task, Turn, AreInRange, crane_in, no_cranes, barred_frame, at_least_zero, grain, is_closed, is_short_along, is_short_before, last_before, left_bays, work_at, InstanceView, Valid, bay_of, task, ticks_of, free, way_frame, crane_numbers}
 use Rattle.qc_model.proofs.LimitsOf.{limits_of, travel_of}
 use Rattle.qc_close.specs.declared.closed.TheConstants.{LAST_CLOSED}
 use Rattle.qc_close.specs.declared.crew.Crew.TheInside.{Inside}

@@ -9,23 +9,11 @@ use Rattle.std.proofs.lemmas.List.Sums.{sum_by-cons}
 use Rattle.std.proofs.lemmas.Nat.Gcd.{le_of_dvd}
 use Rattle.std.specs.Option.{option_map_or}
 use Rattle.std.specs.List.{list_all, range_with_len}
-use Rattle.qc_model.specs.declared.direction.Direction.{Direction}
-use Rattle.qc_model.specs.declared.direction.Direction.TheVariants.{Up, Down}
-use Rattle.qc_model.specs.declared.frame.Frame.{Frame}
-use Rattle.qc_model.specs.declared.turn.Turn.{Turn}
-use Rattle.qc_model.specs.declared.turn.Turn.TheVariants.{OneWay, Free}
-use Rattle.qc_model.specs.Assignments.{AreInRange, crane_in, no_cranes}
-use Rattle.qc_model.specs.Closed.{Try, bays_to, fewest, grain, is_closed, is_short, is_short_along, is_short_before, last_before, left_at, left_bays, legs, load, most, room, work_at}
-use Rattle.qc_model.specs.Barred.{all_done, barred_frame, barring, both_done, done_in, is_barred, lies, own_or_left}
-use Rattle.qc_model.specs.Frames.{frame, frame_of, own, turn_bays, turn_high}
-use Rattle.qc_model.specs.Instance.{InstanceView, IsOnRail, Valid, bay_of, crane, ticks_of}
-use Rattle.qc_model.specs.Work.{crane_numbers, highest, lowest, task_numbers, ticks_over}
-use Rattle.qc_model.specs.declared.limits.TheConstants.{MOST_START}
+use Rattle.qc_close.specs.Model.{Direction, Up, Down, Frame, Turn, OneWay, Free, AreInRange, crane_in, no_cranes, Try, bays_to, fewest, grain, is_closed, is_short, is_short_along, is_short_before, last_before, left_at, left_bays, legs, load, most, room, work_at, all_done, barred_frame, barring, both_done, done_in, is_barred, lies, own_or_left, frame, frame_of, own, turn_bays, turn_high, InstanceView, IsOnRail, Valid, bay_of, crane, ticks_of, crane_numbers, highest, lowest, task_numbers, ticks_over, MOST_START, longest_way, own_bays, way_frame}
 use Rattle.qc_model.proofs.Bays.{bays}
 use Rattle.qc_model.proofs.LimitsOf.{limits_of, travel_of}
 use Rattle.qc_model.proofs.OnRail.{ticks_bounded}
 use Rattle.qc_close.specs.Counts.{AreNear, IsNear}
-use Rattle.qc_model.specs.Ways.{longest_way, own_bays, way_frame}
 use Rattle.std.specs.Int.{int_min}
 use Rattle.qc_close.specs.Trips.{IsShortWay}
 use Rattle.qc_close.proofs.LongestLemmas.{longest_short}

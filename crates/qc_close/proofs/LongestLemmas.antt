@@ -4,18 +4,7 @@ use Rattle.std.proofs.lemmas.Bool.{cases_lt, cond-false, cond_both, le-ltb, ltb-
 use Rattle.std.proofs.lemmas.Int.{by_lt_z, int_max_is, int_min_is, ints}
 use Rattle.std.specs.Int.{int_max, int_min}
 use Rattle.std.specs.List.{range_with_len}
-use Rattle.qc_model.specs.declared.frame.Frame.{Frame}
-use Rattle.qc_model.specs.declared.turn.Turn.{Turn}
-use Rattle.qc_model.specs.declared.turn.Turn.TheVariants.{OneWay, Free}
-use Rattle.qc_model.specs.declared.way.Trip.{Trip}
-use Rattle.qc_model.specs.declared.way.Way.{Way}
-use Rattle.qc_model.specs.Assignments.{AreInRange}
-use Rattle.qc_model.specs.Barred.{barred_frame}
-use Rattle.qc_model.specs.Bays.{at_least_zero, bays_up}
-use Rattle.qc_model.specs.Frames.{frame, frame_of, own, turn_bays, turn_high}
-use Rattle.qc_model.specs.Instance.{InstanceView, Valid, bay_of, crane}
-use Rattle.qc_model.specs.Ways.{frame_along, longest, longest_way, own_bays, own_way, tasks_at, trip_along, trip_from, way_at, way_frame, way_with}
-use Rattle.qc_model.specs.Work.{highest, lowest, task_numbers, ticks_over}
+use Rattle.qc_close.specs.Model.{Frame, Turn, OneWay, Free, Trip, Way, AreInRange, barred_frame, at_least_zero, bays_up, frame, frame_of, own, turn_bays, turn_high, InstanceView, Valid, bay_of, crane, frame_along, longest, longest_way, own_bays, own_way, tasks_at, trip_along, trip_from, way_at, way_frame, way_with, highest, lowest, task_numbers, ticks_over}
 use Rattle.qc_model.proofs.Bays.{bays}
 use Rattle.qc_model.proofs.LimitsOf.{counted}
 use Rattle.qc_close.specs.Owns.{bays_by, own_of, spent_with, ticks_by}

@@ -3,15 +3,10 @@ use Rattle.std.proofs.Common.{[], ◌≡◌, ◌≤ℤ◌, Option, is_some, nat_
 use Rattle.std.specs.List.{list_all, list_any}
 use Rattle.std.proofs.lemmas.Bool.{and_from, and_left, eqb-false, eqb-true, eq-eqb, lt-ltb, ne_eqb, not_from_false, not_from_true, or_cases, or_parts}
 use Rattle.std.proofs.lemmas.Int.{ints}
-use Rattle.qc_model.specs.declared.task.Task.{Task}
-use Rattle.qc_model.specs.Work.{crane_numbers}
-use Rattle.qc_model.specs.Nodes.{reaches}
-use Rattle.qc_model.specs.Instance.{task, InstanceView, Valid}
+use Rattle.qc_close.specs.Model.{Task, crane_numbers, reaches, task, InstanceView, Valid, crane_in, cranes_for, place, all_differ, is_doable}
 use Rattle.qc_model.proofs.LimitsOf.{limits_of, travel_of}
-use Rattle.qc_model.specs.Assignments.{crane_in, cranes_for, place}
 use Rattle.qc_close.specs.Bands.{IsPlace}
 use Rattle.qc_close.proofs.SpanLemmas.{doable_is}
-use Rattle.qc_model.specs.Packs.{all_differ, is_doable}
 
 other_way : (x y : ℕ) → eqb y x ≡ false → eqb x y ≡ false
 other_way x y t = ne_eqb x y (λ e. eqb-false y x t (sym e))

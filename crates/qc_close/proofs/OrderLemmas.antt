@@ -4,10 +4,7 @@ use mathlib.Core.List.{reverse-cons}
 use Rattle.std.proofs.lemmas.Bool.{and_from, and_parts, cond_both, false_from_ne_true, le-leb, leb-true, ltb-true, or_from}
 use Rattle.std.proofs.lemmas.List.{length-reverse}
 use Rattle.std.specs.List.{list_any, range_with_len}
-use Rattle.qc_model.specs.declared.direction.Direction.{Direction}
-use Rattle.qc_model.specs.declared.direction.Direction.TheVariants.{Up, Down}
-use Rattle.qc_model.specs.declared.frame.Frame.{Frame}
-use Rattle.qc_model.specs.Closed.{Try, along, bays_to, first, has_room, is_served, is_short, legs, lists_to, load, most, numbers, room, suffices}
+use Rattle.qc_close.specs.Model.{Direction, Up, Down, Frame, Try, along, bays_to, first, has_room, is_served, is_short, legs, lists_to, load, most, numbers, room, suffices}
 use Rattle.qc_model.proofs.Bays.{bays}
 use Rattle.qc_close.proofs.Members.{any_at, any_from, among_filter, Among, among_either, among_first, among_flat, among_map, among_range, among_second, filter_among, range_among}
 

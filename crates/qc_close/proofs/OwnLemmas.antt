@@ -9,15 +9,7 @@ use Rattle.std.proofs.lemmas.List.Sums.{sum_by-cons}
 use Rattle.std.specs.Int.{int_max, int_min}
 use Rattle.std.specs.List.{range_with_len}
 use Rattle.std.specs.Option.{option_map_or}
-use Rattle.qc_model.specs.declared.frame.Frame.{Frame}
-use Rattle.qc_model.specs.declared.limits.TheConstants.{MOST_WORK}
-use Rattle.qc_model.specs.declared.task.Task.{Task}
-use Rattle.qc_model.specs.declared.turn.Turn.{Turn}
-use Rattle.qc_model.specs.declared.turn.Turn.TheVariants.{OneWay, Free}
-use Rattle.qc_model.specs.Assignments.{crane_in}
-use Rattle.qc_model.specs.Frames.{frame_of, turn_high}
-use Rattle.qc_model.specs.Instance.{InstanceView, IsOnRail, bay_of, task, ticks_of}
-use Rattle.qc_model.specs.Work.{crane_numbers, highest, lowest, ticks_over}
+use Rattle.qc_close.specs.Model.{Frame, MOST_WORK, Task, Turn, OneWay, Free, crane_in, frame_of, turn_high, InstanceView, IsOnRail, bay_of, task, ticks_of, crane_numbers, highest, lowest, ticks_over}
 use Rattle.qc_close.specs.declared.frames.Own.{Own}
 use Rattle.qc_close.specs.Owns.{IsSmall, frame_by, own_of, with_task}
 

@@ -7,14 +7,7 @@ use Rattle.std.proofs.lemmas.List.FromFn.{length-map-range_with_len}
 use Rattle.std.proofs.lemmas.Nat.{mul-le}
 use Rattle.qc_dist.proofs.Bounds.{ticks_over_bounded}
 use Rattle.qc_dist.proofs.Facts.{assigned_range}
-use Rattle.qc_model.specs.declared.decision.Decision.{Decision}
-use Rattle.qc_model.specs.Assignments.{AreInRange, crane_in, cranes_by, cranes_for, cranes_of, place}
-use Rattle.qc_model.specs.Bays.{bays_up}
-use Rattle.qc_model.specs.Instance.{InstanceView, Valid}
-use Rattle.qc_model.specs.Nodes.{Fits, assigned, least, reaches}
-use Rattle.qc_model.specs.Numbers.{most_distance, most_tasks, most_work}
-use Rattle.qc_model.specs.Packs.{is_packed, may_lie, pack, places, span, stretches}
-use Rattle.qc_model.specs.Work.{crane_numbers, ticks_over}
+use Rattle.qc_close.specs.Model.{Decision, AreInRange, crane_in, cranes_by, cranes_for, cranes_of, place, bays_up, InstanceView, Valid, Fits, assigned, least, reaches, most_distance, most_tasks, most_work, is_packed, may_lie, pack, places, span, stretches, crane_numbers, ticks_over}
 use Rattle.qc_model.proofs.Bays.{bays}
 use Rattle.qc_model.proofs.LimitsOf.{limits_of}
 use Rattle.qc_close.specs.Bands.{IsPlace}

@@ -5,17 +5,7 @@ use Rattle.std.proofs.lemmas.Int.{by_lt_z, int_max_is, int_min_is, ints}
 use Rattle.std.specs.Int.{int_max, int_min}
 use Rattle.std.specs.List.{flat_map, list_all}
 use Rattle.std.specs.Option.{option_map_or}
-use Rattle.qc_model.specs.declared.direction.Direction.{Direction}
-use Rattle.qc_model.specs.declared.direction.Direction.TheVariants.{Up, Down}
-use Rattle.qc_model.specs.declared.limits.TheConstants.{MOST_TASKS}
-use Rattle.qc_model.specs.declared.turn.Turn.{Turn}
-use Rattle.qc_model.specs.declared.turn.Turn.TheVariants.{OneWay}
-use Rattle.qc_model.specs.Assignments.{crane_in}
-use Rattle.qc_model.specs.Barred.{all_done, barred_frame, barring, both_done, done_in, lies, own_or_left}
-use Rattle.qc_model.specs.Frames.{frame, own}
-use Rattle.qc_model.specs.Instance.{InstanceView, Valid, bay_of}
-use Rattle.qc_model.specs.Nodes.{greatest}
-use Rattle.qc_model.specs.Work.{highest, lowest, task_numbers}
+use Rattle.qc_close.specs.Model.{Direction, Up, Down, MOST_TASKS, Turn, OneWay, crane_in, all_done, barred_frame, barring, both_done, done_in, lies, own_or_left, frame, own, InstanceView, Valid, bay_of, greatest, highest, lowest, task_numbers}
 use Rattle.qc_model.proofs.NodeLemmas.{T_true, true_T}
 use Rattle.qc_close.specs.Bars.{IsAround, IsGreatest, IsIdle, IsKnown, least_high, left_of, in_row, lie_in, most_low, own_in, own_between, row_before, row_from, sum_along, next_spot, low_spot, high_spot, stretch, swept_from, swept_to, together}
 use Rattle.qc_close.specs.Owns.{IsSmall, own_of}

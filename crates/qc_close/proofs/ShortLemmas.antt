@@ -6,10 +6,7 @@ use Rattle.std.proofs.lemmas.Bool.{and_from, and_parts, cases_Bool, leb-true, le
 use Rattle.std.proofs.lemmas.List.{length-reverse}
 use Rattle.std.proofs.lemmas.List.Sums.{sum-map, sum_by-le-sum_by}
 use Rattle.std.specs.List.{list_any, range_with_len}
-use Rattle.qc_model.specs.declared.direction.Direction.{Direction}
-use Rattle.qc_model.specs.declared.direction.Direction.TheVariants.{Up, Down}
-use Rattle.qc_model.specs.declared.frame.Frame.{Frame}
-use Rattle.qc_model.specs.Closed.{Try, along, bays_to, first, has_room, is_served, is_short, last_before, legs, lists_to, load, most, numbers, room, suffices}
+use Rattle.qc_close.specs.Model.{Direction, Up, Down, Frame, Try, along, bays_to, first, has_room, is_served, is_short, last_before, legs, lists_to, load, most, numbers, room, suffices}
 use Rattle.qc_close.specs.Counts.{AreNumbers, IsWalked, IsStop, NoneSuffice, Suffice, bays_of, try_by}
 use Rattle.qc_close.specs.declared.walk.Stop.{Stop}
 use Rattle.qc_close.specs.declared.walk.Walk.{Walk}

@@ -8,16 +8,10 @@ use Rattle.std.proofs.lemmas.List.Elements.{All-from_recursion}
 use Rattle.std.proofs.lemmas.Map.Keys.{IsDistinct-cons}
 use Rattle.std.proofs.lemmas.Map.Steps.{length-le_from_distinct_below}
 use Rattle.std.proofs.lemmas.Nat.{mul-le}
-use Rattle.qc_model.specs.Bays.{bays_up}
-use Rattle.qc_model.specs.Instance.{InstanceView, bay_of}
-use Rattle.qc_model.specs.Work.{ticks_over}
-use Rattle.qc_model.specs.Nodes.{reaches}
-use Rattle.qc_model.specs.Ticks.{task_distance}
+use Rattle.qc_close.specs.Model.{bays_up, InstanceView, bay_of, ticks_over, reaches, task_distance, AreInRange, crane_in, cranes_by, cranes_for, place, all_clash, all_differ, clash, is_doable, is_packed, may_lie, pack, places, span, stretches}
 use Rattle.qc_model.proofs.Bays.{bays}
 use Rattle.qc_model.proofs.NodeLemmas.{T_true, if_some, true_T}
-use Rattle.qc_model.specs.Assignments.{AreInRange, crane_in, cranes_by, cranes_for, place}
 use Rattle.qc_close.specs.Bands.{AllLie, AreStacked, IsFound, IsFoundFrom, IsStretch, Lies, may, may_by}
-use Rattle.qc_model.specs.Packs.{all_clash, all_differ, clash, is_doable, is_packed, may_lie, pack, places, span, stretches}
 use Rattle.qc_close.proofs.Members.{Among, all_at, all_from, among_filter, among_flat, among_map, among_range, any_at, any_from, filter_among, flat_among, least_at, least_from, map_among, range_among}
 
 -- ---- distances as differences of places
@@ -530,11 +524,3 @@ module _ (inst : InstanceView) (cranes : List (Option ℕ)) (range : AreInRange 
   pack_is (j ∷ js) n t s found =
       cond-true (is_packed inst cranes (j ∷ js)) _ None t
       ∙ ap (λ m. Some (ticks_over inst (j ∷ js) + inst.travel * m)) (span_is inst cranes range j js n s found)
-
--- a stretch is no longer than the ship and the gaps
-pub stretch_few : (inst : InstanceView) (cranes : List (Option ℕ)) (tasks : List ℕ) (n : ℕ) → IsStretch inst cranes tasks n
-    → n ≤ 60000
-stretch_few inst cranes tasks n s =
-    let near = s.near in
-    let is = s.is in
-    omega (arith, bays, near.0.0, near.0.1, near.1.0, near.1.1, is)

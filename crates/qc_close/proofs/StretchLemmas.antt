@@ -4,15 +4,7 @@ use Rattle.std.proofs.lemmas.Bool.{and_from, and_parts, cases_lt, cond-false, co
 use Rattle.std.proofs.lemmas.Int.{ints}
 use Rattle.std.specs.List.{list_all, range_with_len}
 use Rattle.std.specs.Option.{option_map_or}
-use Rattle.qc_model.specs.declared.direction.Direction.{Direction}
-use Rattle.qc_model.specs.declared.direction.Direction.TheVariants.{Up, Down}
-use Rattle.qc_model.specs.declared.limits.TheConstants.{MOST_TASKS}
-use Rattle.qc_model.specs.declared.turn.Turn.{Turn}
-use Rattle.qc_model.specs.Assignments.{crane_in}
-use Rattle.qc_model.specs.Barred.{barring, both_done, done_in, is_barred, lies, soonest}
-use Rattle.qc_model.specs.Frames.{own}
-use Rattle.qc_model.specs.Instance.{InstanceView, IsOnRail, Valid, bay_of}
-use Rattle.qc_model.specs.Work.{task_numbers}
+use Rattle.qc_close.specs.Model.{Direction, Up, Down, MOST_TASKS, Turn, crane_in, barring, both_done, done_in, is_barred, lies, soonest, own, InstanceView, IsOnRail, Valid, bay_of, task_numbers}
 use Rattle.qc_model.proofs.LimitsOf.{limits_of}
 use Rattle.qc_model.proofs.NodeLemmas.{T_true, true_T}
 use Rattle.qc_close.specs.Bars.{IsGreatest, IsKnown, IsTable, sum_along, bars_before, bars_from, bars_of, done_by, in_row, joined, left_of, lie_in, own_in, own_between, row_before, row_between, row_from, next_spot, low_spot, high_spot, past_bars, stretch, swept_from, swept_to}

@@ -4,11 +4,7 @@ use Rattle.std.proofs.lemmas.Bool.{and_parts, cases_Bool, cases_eq, cases_lt, co
 use Rattle.std.proofs.lemmas.List.{get_or_past, get_or-replicate, get_or-set_other, get_or-set_same, length-replicate, length-set}
 use Rattle.std.specs.List.{range_with_len}
 use Rattle.std.specs.Option.{option_map_or}
-use Rattle.qc_model.specs.Assignments.{crane_in, no_cranes}
-use Rattle.qc_model.specs.Barred.{soonest}
-use Rattle.qc_model.specs.Instance.{InstanceView, bay_of, ticks_of}
-use Rattle.qc_model.specs.Nodes.{free}
-use Rattle.qc_model.specs.Work.{task_numbers}
+use Rattle.qc_close.specs.Model.{crane_in, no_cranes, soonest, InstanceView, bay_of, ticks_of, free, task_numbers}
 use Rattle.qc_close.specs.Bars.{AreSmall, AreSums, Changes, Everywhere, From, IsGrid, IsTable, UpTo, bars_of, cell, in_row, joined, no_bars, past_bars, row_at, soonest_of, sum_before, sum_from}
 use Rattle.qc_close.specs.Spots.{AreSoonest, AreSpots}
 use Rattle.qc_close.specs.declared.bars.Bars.{Bars}

@@ -6,16 +6,7 @@ use Rattle.std.proofs.lemmas.List.{get_or-set_other, get_or-set_same, length-set
 use Rattle.std.proofs.lemmas.Nat.{mul-le}
 use Rattle.std.specs.Int.{int_max, int_min}
 use Rattle.std.specs.List.{range_with_len}
-use Rattle.qc_model.specs.declared.task.Phase.{Phase}
-use Rattle.qc_model.specs.declared.task.Phase.TheVariants.{DeckOut, HoldOut, HoldIn, DeckIn}
-use Rattle.qc_model.specs.declared.way.Trip.{Trip}
-use Rattle.qc_model.specs.Assignments.{AreInRange, crane_in, no_cranes}
-use Rattle.qc_model.specs.Bays.{at_least_zero, bays_between}
-use Rattle.qc_model.specs.Instance.{InstanceView, IsOnRail, Valid, bay_of, crane, task}
-use Rattle.qc_model.specs.Motion.{bay_ahead, bay_behind}
-use Rattle.qc_model.specs.Tasks.{phase_rank, task_rank}
-use Rattle.qc_model.specs.Ways.{stand, tasks_at, trip_along, trip_for, trip_from, trip_to}
-use Rattle.qc_model.specs.Work.{task_numbers}
+use Rattle.qc_close.specs.Model.{Phase, DeckOut, HoldOut, HoldIn, DeckIn, Trip, AreInRange, crane_in, no_cranes, at_least_zero, bays_between, InstanceView, IsOnRail, Valid, bay_of, crane, task, bay_ahead, bay_behind, phase_rank, task_rank, stand, tasks_at, trip_along, trip_for, trip_from, trip_to, task_numbers}
 use Rattle.qc_model.proofs.Bays.{bays}
 use Rattle.qc_model.proofs.LimitsOf.{counted, limits_of}
 use Rattle.qc_close.specs.Bars.{Changes}
@@ -314,9 +305,6 @@ pub record AreKept (new : ℕ → Trip) (olds cells : List Trip) (spot count : �
   pub many : length cells ≡ 1920
   pub done : (w : ℕ) → w < count → get_or cells (240 * w + spot) no_trip ≡ new w
   pub others : (i : ℕ) → ((w : ℕ) → w < count → i ≢ 240 * w + spot) → get_or cells i no_trip ≡ get_or olds i no_trip
-
-pub none_kept : (new : ℕ → Trip) (olds : List Trip) (spot : ℕ) → length olds ≡ 1920 → AreKept new olds olds spot 0
-none_kept new olds spot many = record { many = many; done = λ w low. absurd (omega arith); others = λ i _. refl }
 
 pub one_kept : (new : ℕ → Trip) (olds cells : List Trip) (spot count : ℕ) (v : Trip) → AreKept new olds cells spot count
     → spot < 240 → count < 8 → v ≡ new count → AreKept new olds (set cells (240 * count + spot) v) spot (count + 1)

@@ -7,10 +7,7 @@ use Rattle.std.proofs.lemmas.List.Elements.{filter-append}
 use Rattle.std.proofs.lemmas.List.FromFn.{map-range_with_len_more}
 use Rattle.std.proofs.lemmas.List.Sums.{sum_by-cons}
 use Rattle.std.specs.List.{range_with_len}
-use Rattle.qc_model.specs.declared.direction.Direction.{Direction}
-use Rattle.qc_model.specs.declared.direction.Direction.TheVariants.{Up, Down}
-use Rattle.qc_model.specs.declared.frame.Frame.{Frame}
-use Rattle.qc_model.specs.Closed.{Try, along, bays_to, fewest, legs, load, most, suffices}
+use Rattle.qc_close.specs.Model.{Direction, Up, Down, Frame, Try, along, bays_to, fewest, legs, load, most, suffices}
 use Rattle.qc_close.specs.Counts.{AreNumbers, IsStop, IsWalked, NoneSuffice, Suffice, bay_behind, last_bays, leg_from, try_by}
 use Rattle.qc_close.specs.declared.walk.Stop.{Stop}
 use Rattle.qc_close.specs.declared.walk.Walk.{Walk}

@@ -1,11 +1,8 @@
 -- inner: where tasks may lie, as packed tasks are told by it.
 use Rattle.std.specs.Prelude.{◌≡◌, ℕ, ◌<◌, ◌≤◌, ℤ, pos, negsuc, ◌≤ℤ◌, ◌<ℤ◌, ◌⊎◌, Bool, true, false, ◌==◌, List, length, slice_index, Option, None, Some, MatchOption}
 use Rattle.std.specs.Int.{int_max, int_min}
-use Rattle.qc_model.specs.Bays.{bays_up}
-use Rattle.qc_model.specs.Instance.{InstanceView, IsFrom}
-use Rattle.qc_model.specs.Nodes.{reaches}
+use Rattle.qc_close.specs.Model.{bays_up, InstanceView, IsFrom, reaches, crane_in, place}
 use Rattle.qc_close.specs.declared.packs.Band.{Band}
-use Rattle.qc_model.specs.Assignments.{crane_in, place}
 
 abbrev pub may_by : InstanceView → ℕ → ℕ → Option ℕ → Bool
 may_by inst j v (Some k) = k == v

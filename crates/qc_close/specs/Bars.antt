@@ -2,15 +2,7 @@
 use Rattle.std.specs.Prelude.{◌≡◌, ◌≢◌, ℕ, zero, suc, ◌+◌, ◌-◌, ◌*◌, ◌^◌, ◌<◌, ◌≤◌, min, Bool, true, false, ◌&&◌, ◌==◌, nat_lt, nat_le, int_le, is_none, if◌then◌else◌, List, [], ◌∷◌, filter, length, slice_index, slice_index_or, Option, None, Some, ℤ, pos, negsuc, ◌<ℤ◌}
 use Rattle.std.specs.Int.{int_max, int_min}
 use Rattle.std.specs.Option.{option_map_or}
-use Rattle.qc_model.specs.declared.direction.Direction.{Direction}
-use Rattle.qc_model.specs.declared.direction.Direction.TheVariants.{Up, Down}
-use Rattle.qc_model.specs.declared.turn.Turn.{Turn}
-use Rattle.qc_model.specs.Assignments.{crane_in}
-use Rattle.qc_model.specs.Barred.{done_in, soonest}
-use Rattle.qc_model.specs.Bays.{bays_up}
-use Rattle.qc_model.specs.Frames.{own}
-use Rattle.qc_model.specs.Instance.{InstanceView, Valid, bay_of}
-use Rattle.qc_model.specs.Work.{task_numbers, ticks_over}
+use Rattle.qc_close.specs.Model.{Direction, Up, Down, Turn, crane_in, done_in, soonest, bays_up, own, InstanceView, Valid, bay_of, task_numbers, ticks_over}
 use Rattle.qc_close.specs.Owns.{frame_by, own_of}
 use Rattle.qc_close.specs.Spots.{AreSpots, spot_bay}
 use Rattle.qc_close.specs.declared.barred.Place.{Place}

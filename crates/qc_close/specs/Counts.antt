@@ -1,10 +1,7 @@
 -- inner: how far a count of the cranes that must come to bays has come.
 use Rattle.std.specs.Prelude.{◌≡◌, ℕ, ◌+◌, ◌-◌, ◌≤◌, ◌<◌, pos, true, false, nat_lt, List, [], ◌∷◌, filter, map, reverse, length, slice_index, slice_index_or, sum_by, Option, None, Some}
 use Rattle.std.specs.List.{range_with_len}
-use Rattle.qc_model.specs.declared.direction.Direction.{Direction}
-use Rattle.qc_model.specs.declared.direction.Direction.TheVariants.{Up, Down}
-use Rattle.qc_model.specs.declared.frame.Frame.{Frame}
-use Rattle.qc_model.specs.Closed.{Try, bays_to, fewest, legs, suffices}
+use Rattle.qc_close.specs.Model.{Direction, Up, Down, Frame, Try, bays_to, fewest, legs, suffices}
 use Rattle.qc_close.specs.Trips.{IsWide}
 use Rattle.qc_close.specs.declared.walk.Stop.{Stop}
 use Rattle.qc_close.specs.declared.walk.Walk.{Walk}

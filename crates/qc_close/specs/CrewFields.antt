@@ -1,10 +1,8 @@
 -- inner: the fields of a crew, as clauses see them and as they are kept.
 use Rattle.std.specs.Prelude.{◌≡◌, length}
-use Rattle.qc_model.specs.Instance.{Valid}
+use Rattle.qc_close.specs.Model.{Valid, AreInRange, no_cranes, grain, is_short_before}
 use Rattle.qc_close.specs.declared.closed.TheConstants.{LAST_CLOSED}
 use Rattle.qc_close.specs.declared.crew.Crew.TheInside.{Inside}
-use Rattle.qc_model.specs.Assignments.{AreInRange, no_cranes}
-use Rattle.qc_model.specs.Closed.{grain, is_short_before}
 use Rattle.qc_close.specs.Bars.{IsTable}
 use Rattle.qc_close.specs.Crews.{CrewView}
 use Rattle.qc_close.specs.Lasts.{IsLast}

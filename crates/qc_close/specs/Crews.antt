@@ -1,9 +1,6 @@
 -- public: what contracts see of a crew.
 use Rattle.std.specs.Prelude.{◌≡◌, ℕ, List, Option}
-use Rattle.qc_model.specs.declared.decision.Decision.{Decision}
-use Rattle.qc_model.specs.Instance.{InstanceView}
-use Rattle.qc_model.specs.declared.turn.Turn.{Turn}
-use Rattle.qc_model.specs.Assignments.{cranes_of}
+use Rattle.qc_close.specs.Model.{Decision, InstanceView, Turn, cranes_of}
 
 -- the instance, whether cranes go one way, and the crane of each task that has one
 pub record CrewView : Type 0 where

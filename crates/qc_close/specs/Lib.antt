@@ -1,3 +1,4 @@
+pub mod Model
 pub mod Crews
 pub mod CrewFields
 pub mod Bands

@@ -1,7 +1,6 @@
 -- inner: what a crew keeps beside its instance, before any task has a crane.
 use Rattle.std.specs.Prelude.{◌≡◌, ℕ, List, length}
-use Rattle.qc_model.specs.Assignments.{no_cranes}
-use Rattle.qc_model.specs.Instance.{InstanceView}
+use Rattle.qc_close.specs.Model.{no_cranes, InstanceView}
 use Rattle.qc_close.specs.declared.crew.Lists.{Lists}
 use Rattle.qc_close.specs.Bars.{IsTable}
 use Rattle.qc_close.specs.Lefts.{IsLeft}

@@ -1,7 +1,6 @@
 -- inner: what is known of cranes whose trips are kept.
 use Rattle.std.specs.Prelude.{ℕ, List, Option}
-use Rattle.qc_model.specs.Assignments.{AreInRange}
-use Rattle.qc_model.specs.Instance.{InstanceView, Valid}
+use Rattle.qc_close.specs.Model.{AreInRange, InstanceView, Valid}
 use Rattle.qc_close.specs.Bars.{IsTable}
 use Rattle.qc_close.specs.Spots.{AreSpots}
 use Rattle.qc_close.specs.Trips.{AreTrips}

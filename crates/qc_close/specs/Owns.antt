@@ -1,13 +1,7 @@
 -- inner: what each crane has spent, as code sums it up.
 use Rattle.std.specs.Prelude.{ℕ, ◌+◌, ◌*◌, ◌≤◌, true, false, List, [], ◌∷◌, Option, None, Some}
 use Rattle.std.specs.Int.{int_max, int_min}
-use Rattle.qc_model.specs.declared.frame.Frame.{Frame}
-use Rattle.qc_model.specs.declared.task.Task.{Task}
-use Rattle.qc_model.specs.declared.turn.Turn.{Turn}
-use Rattle.qc_model.specs.declared.limits.TheConstants.{MOST_WORK}
-use Rattle.qc_model.specs.Frames.{turn_bays, turn_high}
-use Rattle.qc_model.specs.Instance.{InstanceView, IsOnRail, crane}
-use Rattle.qc_model.specs.Work.{highest, lowest, ticks_over}
+use Rattle.qc_close.specs.Model.{Frame, Task, Turn, MOST_WORK, turn_bays, turn_high, InstanceView, IsOnRail, crane, highest, lowest, ticks_over}
 use Rattle.qc_close.specs.declared.frames.Own.{Own}
 
 -- these tasks, summed up

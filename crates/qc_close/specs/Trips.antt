@@ -1,10 +1,6 @@
 -- inner: the trips of cranes, as code keeps them.
 use Rattle.std.specs.Prelude.{◌≡◌, ℕ, ◌+◌, ◌*◌, ◌<◌, ◌≤◌, Bool, ◌==◌, List, filter, length, slice_index, slice_index_or, Option, ℤ, pos, negsuc}
-use Rattle.qc_model.specs.Instance.{InstanceView, IsFrom, crane}
-use Rattle.qc_model.specs.Ways.{trip_along, trip_from}
-use Rattle.qc_model.specs.Work.{task_numbers}
-use Rattle.qc_model.specs.declared.way.Trip.{Trip}
-use Rattle.qc_model.specs.declared.way.Way.{Way}
+use Rattle.qc_close.specs.Model.{InstanceView, IsFrom, crane, trip_along, trip_from, task_numbers, Trip, Way}
 use Rattle.qc_close.specs.declared.trip.Trips.{Trips}
 
 -- where cranes stand on the rail, and by all gaps beyond it

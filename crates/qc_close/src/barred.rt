@@ -1,10 +1,7 @@
 //! The time that cranes spend while neighbours bar the way.
 
 ghost use Rattle.std.specs.Prelude.{◌≡◌, ◌+◌, ◌-◌, ◌<◌, ◌≤◌, ◌^◌, ℕ, List, Option, IfSome, length};
-ghost use Rattle.qc_model.specs.declared.limits.TheConstants.{MOST_TASKS};
-ghost use Rattle.qc_model.specs.Barred.{barred_frame, done_in};
-ghost use Rattle.qc_model.specs.Frames.{frame};
-ghost use Rattle.qc_model.specs.Instance.{IsOnRail};
+ghost use Rattle.qc_close.specs.Model.{MOST_TASKS, barred_frame, done_in, frame, IsOnRail};
 ghost use Rattle.qc_close.specs.Bars.{IsAround, IsGreatest, IsIdle, IsKnown, done_by, high_spot, least_high, lie_in, low_spot, most_low, own_between, stretch, sum_along};
 ghost use Rattle.qc_close.specs.Owns.{IsSmall};
 ghost use Rattle.qc_close.specs.Spots.{AreBefore, AreRising, IsCount, spot_bay};

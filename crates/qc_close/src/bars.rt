@@ -1,8 +1,7 @@
 //! Tasks that may bar the way of cranes next to theirs.
 
 ghost use Rattle.std.specs.Prelude.{◌≡◌, ◌+◌, ◌-◌, ◌*◌, ◌<◌, ◌≤◌, ◌^◌, List, Option, ℕ, IfOk, filter, length, replicate, slice_index, slice_set};
-ghost use Rattle.qc_model.specs.Assignments.{no_cranes};
-ghost use Rattle.qc_model.specs.Work.{task_numbers};
+ghost use Rattle.qc_close.specs.Model.{no_cranes, task_numbers};
 ghost use Rattle.qc_close.specs.Bars.{AreSmall, AreSums, Changes, Everywhere, From, IsTable, UpTo, bars_of, joined, no_bars, own_in, row_at, sum_before, sum_from};
 ghost use Rattle.qc_close.specs.Spots.{AreSoonest, AreSpots};
 
@@ -95,7 +94,7 @@ pub(crate) fn table_of(alloc: Global, inst: &Instance, spots: &Spots) -> Result<
     requires { AreSpots inst.now spots.now }
     ensures { IfOk result (λ table. IsTable inst.now (no_cranes inst.now) spots.now table) }
 {
-    let _tasks = inst.task_count();
+    let _tasks = inst.task_count(); // for what it ensures
     Ok(Table {
         grid: nothings(alloc, 2400)?,
         before: nothings(alloc, 2410)?,
@@ -253,7 +252,7 @@ pub(crate) fn keep_table(
     ensures { (olds : List (Option ℕ)) → IsTable inst.now olds spots.now table.old
         → Changes olds cranes.now task crane → IsTable inst.now cranes.now spots.now table.new }
 {
-    let _cranes = inst.crane_count();
+    let _cranes = inst.crane_count(); // for what it ensures
     let row = crane as usize + 1;
     let spot = spots.of_task[task as usize] as usize;
     let bars = bars_at(

@@ -1,9 +1,7 @@
 //! The ends at which an assignment is closed.
 
 ghost use Rattle.std.specs.Prelude.{◌≡◌, ◌||◌, ◌<◌, ◌^◌, ℕ, List, Option, length, map, take};
-ghost use Rattle.qc_model.specs.Assignments.{AreInRange};
-ghost use Rattle.qc_model.specs.Closed.{grain, is_short, is_short_along, is_short_before, last_before, try_with};
-ghost use Rattle.qc_model.specs.Work.{crane_numbers};
+ghost use Rattle.qc_close.specs.Model.{AreInRange, grain, is_short, is_short_along, is_short_before, last_before, try_with, crane_numbers};
 ghost use Rattle.qc_close.specs.Counts.{AreNear};
 ghost use Rattle.qc_close.specs.Tried.{tried};
 ghost use Rattle.qc_close.specs.Lasts.{IsLast};

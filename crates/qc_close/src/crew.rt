@@ -1,9 +1,7 @@
 //! Which crane has which task.
 
 ghost use Rattle.std.specs.Prelude.{◌≡◌, ◌||◌, ◌<◌, ◌≤◌, ℕ, List, Option, None, Some, IfOk, IsSome, OnOk, length, replicate, slice_set, true};
-ghost use Rattle.qc_model.specs.Instance.{Valid};
-ghost use Rattle.qc_model.specs.Assignments.{AreInRange, crane_in, no_cranes};
-ghost use Rattle.qc_model.specs.Closed.{is_closed, is_short_along, is_short_before};
+ghost use Rattle.qc_close.specs.Model.{Valid, AreInRange, crane_in, no_cranes, is_closed, is_short_along, is_short_before};
 ghost use Rattle.qc_close.specs.Bars.{Changes, IsTable};
 ghost use Rattle.qc_close.specs.Crews.{CrewView};
 ghost use Rattle.qc_close.specs.CrewFields.{view_of, IsKept};
@@ -134,7 +132,7 @@ fn crew_of(inst: Instance, turn: Turn, lists: Lists) -> Crew
     requires { AreLists inst lists }
     ensures { result ≡ record { inst = inst; turn = turn; cranes = no_cranes inst } }
 {
-    let _tasks = inst.task_count();
+    let _tasks = inst.task_count(); // for what it ensures
     let step = grain(&inst);
     let bare = last_short_end(
         &inst,
@@ -213,7 +211,7 @@ impl Crew {
         match find_lists(alloc, &kept, &mut lists) {
             Ok(()) => Ok(crew_of(kept, turn, lists)),
             Err(OutOfMemory) => {
-                drop(lists);
+                drop(lists); // by name: proved faster
                 drop(kept);
                 Err(OutOfMemory)
             }

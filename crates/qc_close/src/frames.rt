@@ -1,12 +1,7 @@
 //! What each crane has spent on the tasks that it has.
 
 ghost use Rattle.std.specs.Prelude.{◌≡◌, ◌*◌, ◌<◌, ◌≤◌, ◌^◌, IfSome, length, map, take};
-ghost use Rattle.qc_model.specs.declared.limits.TheConstants.{MOST_TASKS};
-ghost use Rattle.qc_model.specs.Assignments.{AreInRange};
-ghost use Rattle.qc_model.specs.Barred.{barred_frame};
-ghost use Rattle.qc_model.specs.Frames.{own, turn_bays, turn_high};
-ghost use Rattle.qc_model.specs.Instance.{IsOnRail};
-ghost use Rattle.qc_model.specs.Work.{crane_numbers};
+ghost use Rattle.qc_close.specs.Model.{MOST_TASKS, AreInRange, barred_frame, own, turn_bays, turn_high, IsOnRail, crane_numbers};
 ghost use Rattle.qc_close.specs.Bars.{IsTable, left_of, together};
 ghost use Rattle.qc_close.specs.Counts.{AreNear, IsNear};
 ghost use Rattle.qc_close.specs.Owns.{IsSmall, frame_by, own_of, with_task};

@@ -2,8 +2,7 @@
 
 ghost use Rattle.std.specs.Prelude.{◌≡◌, length, slice_index_or};
 ghost use Rattle.std.specs.Int.{IsGcd};
-ghost use Rattle.qc_model.specs.Closed.{grain};
-ghost use Rattle.qc_model.specs.Instance.{no_crane, no_task};
+ghost use Rattle.qc_close.specs.Model.{grain, no_crane, no_task};
 ghost use Rattle.qc_close.specs.Grains.{IsGrainOf};
 
 use qc_model::{Crane, Instance, Task};

@@ -2,8 +2,7 @@
 
 ghost use Rattle.std.specs.Prelude.{◌≡◌, ◌+◌, ◌*◌, ◌<◌, ◌≤◌, false, true};
 ghost use Rattle.qc_close.specs.Lasts.{IsLatest};
-ghost use Rattle.qc_model.specs.declared.limits.TheConstants.{MOST_START};
-ghost use Rattle.qc_model.specs.Closed.{is_closed};
+ghost use Rattle.qc_close.specs.Model.{MOST_START, is_closed};
 
 use crate::crew::Crew;
 use qc_model::MOST_START;
@@ -16,7 +15,7 @@ impl Crew {
         ensures is { result ≡ is_closed self.now.inst self.now.turn self.now.cranes end }
         ensures soon { result ≡ true → end ≤ MOST_START }
     {
-        let _inst = self.instance();
+        let _inst = self.instance(); // for what it ensures
         end <= MOST_START && self.closed(end)
     }
 
@@ -41,7 +40,7 @@ impl Crew {
         ensures latest { IsLatest (is_closed self.now.inst self.now.turn self.now.cranes) result }
         ensures soon { result ≤ MOST_START }
     {
-        let _inst = self.instance();
+        let _inst = self.instance(); // for what it ensures
         let mut low = self.bare_end();
         let mut high = self.open_end(low);
         'halving: while low + 1 < high {

@@ -3,12 +3,8 @@
 ghost use Rattle.std.specs.Prelude.{◌≡◌, ◌==◌, ◌+◌, ◌*◌, ◌<◌, ◌≤◌, ℕ, ℤ, drop, All, IfSome, MatchBool, MatchOption, length, slice_index, true, false, int_le, min, nat_le};
 ghost use Rattle.std.specs.List.{list_all, list_any};
 ghost use Rattle.std.specs.Option.{option_map_or};
-ghost use Rattle.qc_model.specs.declared.limits.TheConstants.{MOST_DISTANCE, MOST_TASKS, MOST_WORK};
-ghost use Rattle.qc_model.specs.Work.{crane_numbers, ticks_over};
-ghost use Rattle.qc_model.specs.Nodes.{reaches};
-ghost use Rattle.qc_model.specs.Assignments.{place};
+ghost use Rattle.qc_close.specs.Model.{MOST_DISTANCE, MOST_TASKS, MOST_WORK, crane_numbers, ticks_over, reaches, place, all_clash, all_differ, is_doable, is_packed, pack};
 ghost use Rattle.qc_close.specs.Bands.{AreBelow, AreStacked, IsBandOf, IsFinding, IsFoundFrom, IsNearest, IsPlace, IsReach, IsStretch, Lies, may, widened};
-ghost use Rattle.qc_model.specs.Packs.{all_clash, all_differ, is_doable, is_packed, pack};
 
 use crate::Crew;
 use qc_dist::in_reach;
@@ -215,7 +211,7 @@ impl Crew {
             ((high : ℤ) → ¬ Lies self.now.inst self.now.cranes low high task)
             (IsNearest self.now.inst self.now.cranes low task) }
     {
-        let _inst = self.instance();
+        let _inst = self.instance(); // for what it ensures
         for above in 0..cranes {
             let crane = cranes - 1 - above;
             if self.may(task, crane) {

@@ -2,8 +2,7 @@
 
 ghost use Rattle.std.specs.Prelude.{◌≡◌, ◌&&◌, ◌+◌, ◌<◌, ◌≤◌, ◌^◌, map, nat_lt, sum};
 ghost use Rattle.std.specs.List.{list_any};
-ghost use Rattle.qc_model.specs.declared.direction.Direction.TheVariants.{Up, Down};
-ghost use Rattle.qc_model.specs.Closed.{along, bays_to, is_served, is_short, last_before, room};
+ghost use Rattle.qc_close.specs.Model.{Up, Down, along, bays_to, is_served, is_short, last_before, room};
 ghost use Rattle.qc_close.specs.Counts.{IsWalked};
 ghost use Rattle.qc_close.specs.Tried.{tried};
 ghost use Rattle.qc_close.specs.Lasts.{IsLast};

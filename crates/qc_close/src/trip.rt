@@ -2,9 +2,7 @@
 
 ghost use Rattle.std.specs.Prelude.{◌≡◌, ◌≢◌, ◌&&◌, ◌==◌, ◌+◌, ◌-◌, ◌*◌, ◌<◌, ◌≤◌, ◌^◌, ℕ, pos, ◌+ℤ◌, ◌-ℤ◌, List, Option, IfOk, length, nat_lt, replicate, slice_index};
 ghost use Rattle.std.specs.Int.{int_max, int_min};
-ghost use Rattle.qc_model.specs.Assignments.{AreInRange, no_cranes};
-ghost use Rattle.qc_model.specs.Instance.{IsOnRail};
-ghost use Rattle.qc_model.specs.Ways.{stand, trip_for, trip_from, trip_to};
+ghost use Rattle.qc_close.specs.Model.{AreInRange, no_cranes, IsOnRail, stand, trip_for, trip_from, trip_to};
 ghost use Rattle.qc_close.specs.Bars.{Changes};
 ghost use Rattle.qc_close.specs.Spots.{AreSpots};
 ghost use Rattle.qc_close.specs.Trips.{AreTogether, AreTrips, IsWideTrip, no_trip, trip_of};

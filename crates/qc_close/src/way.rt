@@ -2,13 +2,7 @@
 
 ghost use Rattle.std.specs.Prelude.{◌≡◌, ◌||◌, ◌+◌, ◌*◌, ◌<◌, ◌≤◌, ◌^◌, ℕ, List, Option, IfSome, if◌then◌else◌, length, map, max, min, nat_lt, take};
 ghost use Rattle.std.specs.Int.{int_max, int_min};
-ghost use Rattle.qc_model.specs.declared.limits.TheConstants.{MOST_TASKS};
-ghost use Rattle.qc_model.specs.declared.turn.Turn.{Turn};
-ghost use Rattle.qc_model.specs.Barred.{barred_frame};
-ghost use Rattle.qc_model.specs.Frames.{frame};
-ghost use Rattle.qc_model.specs.Bays.{bays_up};
-ghost use Rattle.qc_model.specs.Ways.{longest_way, own_way, way_frame, way_with};
-ghost use Rattle.qc_model.specs.Work.{crane_numbers};
+ghost use Rattle.qc_close.specs.Model.{MOST_TASKS, Turn, barred_frame, frame, bays_up, longest_way, own_way, way_frame, way_with, crane_numbers};
 ghost use Rattle.qc_close.specs.Moves.{IsMoving};
 ghost use Rattle.qc_close.specs.Owns.{IsSmall, bays_by, spent_with, ticks_by};
 
@@ -96,7 +90,7 @@ fn longest_way(
         → usual.high ≡ (frame inst.now turn cranes crane).high → own ≡ own_way inst.now turn cranes crane
         → result ≡ longest_way inst.now turn cranes crane }
 {
-    let _cranes = inst.crane_count();
+    let _cranes = inst.crane_count(); // for what it ensures
     let mut way = own;
     for spot in 0..spots.bays.len() {
         let trip = trips.cells[240 * crane as usize + spot];

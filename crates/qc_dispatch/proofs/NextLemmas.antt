@@ -1,6 +1,6 @@
 -- The next start.
-use Rattle.std.proofs.Common.{◌≡◌, ℕ, ◌+◌, ◌<◌, ◌≤◌, max, inl, inr, Bool, true, ◌&&◌, ◌==◌, nat_le, nat_lt, Option, None, Some, List, length, slice_index_or, refl, ap, subst, ◌∙◌, arith}
-use Rattle.std.proofs.lemmas.Bool.{and_from, and_parts, cases_eq, cond_both, cond-true, eq-eqb, eqb-true, leb-false, leb-true, ltb-false, ltb-true}
+use Rattle.std.proofs.Common.{◌≡◌, ℕ, ◌<◌, ◌≤◌, max, Bool, true, ◌&&◌, ◌==◌, nat_le, Option, None, Some, List, length, slice_index_or, refl, ap, subst, arith}
+use Rattle.std.proofs.lemmas.Bool.{and_from, and_parts, cond_both, cond-true, eq-eqb, eqb-true, leb-false, leb-true}
 use Rattle.std.proofs.lemmas.Option.{cond_some}
 use Rattle.qc_dispatch.specs.declared.next.Next.{Next}
 use Rattle.qc_dispatch.specs.declared.stage.Stage.{Stage}
@@ -8,58 +8,8 @@ use Rattle.qc_dispatch.specs.declared.stage.Stage.TheVariants.{Waiting, Running,
 use Rattle.qc_dispatch.specs.declared.waits.Wait.{Wait}
 use Rattle.qc_dispatch.specs.Course.{Course, MayFrom, MayStart, is_waiting, stage_of}
 use Rattle.qc_dispatch.specs.Kept.{AreKept, ComesBy, IsSoonest}
-use Rattle.qc_dispatch.specs.Waits.{IsFirst, IsNext, moment_of, sooner, wait_of, within}
+use Rattle.qc_dispatch.specs.Waits.{IsFirst, IsNext, moment_of, wait_of, within}
 use Rattle.qc_dispatch.proofs.WaitLemmas.{due_by, may_from, none_open}
-
--- ---- one task more
-
-module _ (f : ℕ → Option ℕ) (n : ℕ) where
-  not_it : (j m : ℕ) → f n ≡ None → f j ≡ Some m → j < n + 1 → j < n
-  not_it j m none some low = elim (cases_eq j n) [
-    | inl e ↦ absurd (cc (ap f e, none, some))
-    | inr differ ↦ omega (arith, differ)
-  ]
-
-  next_more : (best : Option Next) (o : Option ℕ) → f n ≡ o → IsNext f n best → IsNext f (n + 1) (sooner best n o)
-  next_more None None e is = λ j low. elim (cases_eq j n) [ inl same ↦ ap f same ∙ e | inr differ ↦ is j (omega arith) ]
-  next_more (Some best) None e is = record {
-    inside = omega (arith, is.inside);
-    at_it = is.at_it;
-    soonest = λ j m low some. is.soonest j m (not_it j m e some low) some;
-    lowest = is.lowest;
-  }
-  next_more None (Some moment) e is = record {
-    inside = omega arith;
-    at_it = e;
-    soonest = λ j m low some. elim (cases_eq j n) [
-      | inl same ↦ let at : m ≡ moment = cc (ap f same, e, some) in omega (arith, at)
-      | inr differ ↦ absurd (cc (is j (omega arith), some))
-    ];
-    lowest = λ j m low some. absurd (cc (is j low, some));
-  }
-  next_more (Some best) (Some moment) e is =
-      cond_both (nat_lt moment best.moment) (Some (record { task = n; moment = moment })) (Some best) (IsNext f (n + 1))
-      (λ less. let sooner : moment < best.moment = ltb-true moment best.moment less in record {
-        inside = omega arith;
-        at_it = e;
-        soonest = λ j m low some. elim (cases_eq j n) [
-          | inl same ↦ let at : m ≡ moment = cc (ap f same, e, some) in omega (arith, at)
-          | inr differ ↦ omega (arith, is.soonest j m (omega arith) some)
-        ];
-        lowest = λ j m low some. omega (arith, is.soonest j m low some);
-      })
-      (λ more. let later : best.moment ≤ moment = ltb-false moment best.moment more in record {
-        inside = omega (arith, is.inside);
-        at_it = is.at_it;
-        soonest = λ j m low some. elim (cases_eq j n) [
-          | inl same ↦ let at : m ≡ moment = cc (ap f same, e, some) in omega (arith, at)
-          | inr differ ↦ is.soonest j m (omega arith) some
-        ];
-        lowest = is.lowest;
-      })
-
-  pub one_more : (best : Option Next) → IsNext f n best → IsNext f (n + 1) (sooner best n (f n))
-  one_more best is = next_more best (f n) refl is
 
 -- ---- what it says of the course
 

@@ -1,4 +1,4 @@
-// One record of a plan file.
+//! One record of a plan file.
 
 ghost use Rattle.std.specs.Prelude.{◌≡◌, ◌<◌, length, IfOk};
 ghost use Rattle.csv.specs.Records.{fields_of};

@@ -1,4 +1,4 @@
-// Writing the Gantt text of a schedule.
+//! Writing the Gantt text of a schedule.
 ghost use Rattle.std.specs.Prelude.{◌≡◌, ◌≤◌, ◌<◌, ◌+◌, ◌++◌, codes, length};
 ghost use Rattle.std.specs.List.{flat_map, range_with_len};
 ghost use Rattle.qc_io.specs.Writes.{Writes};

@@ -1,4 +1,4 @@
-// Tasks and cranes by their names.
+//! Tasks and cranes by their names.
 
 ghost use Rattle.std.specs.Prelude.{◌≡◌, ◌<◌, ◌^◌, List, ℕ, length, map, IfOk, IfSome, OnOk};
 ghost use Rattle.indexmap.specs.IndexMap.{IsEmpty};

@@ -1,4 +1,4 @@
-// Writing the crane lines of a schedule.
+//! Writing the crane lines of a schedule.
 ghost use Rattle.std.specs.Prelude.{◌≡◌, ◌≤◌, length};
 ghost use Rattle.qc_model.specs.Judge.{Goes, IsJudgeable};
 ghost use Rattle.qc_gantt.specs.TracksText.{WritesTracks};

@@ -1,4 +1,4 @@
-// Writing a plan file.
+//! Writing a plan file.
 ghost use Rattle.std.specs.Prelude.{◌≡◌, ◌+◌, ◌<◌, ◌^◌, ℕ, IsTrue, Ok, OnOk, length};
 ghost use Rattle.qc_io.specs.Writes.{Writes};
 ghost use Rattle.qc_model.specs.Instance.{Valid, crane, task};

@@ -8,27 +8,13 @@ use Rattle.std.proofs.lemmas.Nat.{mul-le}
 use Rattle.std.specs.Int.{int_min}
 use Rattle.std.specs.List.{list_all, range_with_len}
 use Rattle.std.specs.Option.{option_map_or}
-use Rattle.qc_model.specs.declared.frame.Frame.{Frame}
-use Rattle.qc_model.specs.declared.schedule.Slot.{Slot}
-use Rattle.qc_model.specs.declared.turn.Turn.{Turn}
-use Rattle.qc_model.specs.declared.turn.Turn.TheVariants.{OneWay, Free}
-use Rattle.qc_model.specs.Assignments.{Follows, crane_in, place}
-use Rattle.qc_model.specs.Barred.{all_done, barred_frame, barring, both_done, done_in, is_barred, lies, own_or_left, soonest}
-use Rattle.qc_model.specs.Bays.{bays_between, bays_up}
-use Rattle.qc_model.specs.Frames.{GoesBy, frame, frame_of, own, turn_bays, turn_high}
-use Rattle.qc_model.specs.Instance.{InstanceView, Valid, bay_of, crane, ticks_of}
-use Rattle.qc_model.specs.Nodes.{berth_wait, free, greatest, least}
-use Rattle.qc_model.specs.OneWay.{GoesUp}
-use Rattle.qc_model.specs.Rules.{Feasible, crane_of, ends, start_of}
-use Rattle.qc_model.specs.Ticks.{berth_distance, task_distance}
-use Rattle.qc_model.specs.Work.{highest, lowest, task_numbers, ticks_over}
+use Rattle.qc_close.specs.Model.{Frame, Slot, Turn, OneWay, Free, Follows, crane_in, place, all_done, barred_frame, barring, both_done, done_in, is_barred, lies, own_or_left, soonest, bays_between, bays_up, GoesBy, frame, frame_of, own, turn_bays, turn_high, InstanceView, Valid, bay_of, crane, ticks_of, berth_wait, free, greatest, least, GoesUp, Feasible, crane_of, ends, start_of, berth_distance, task_distance, highest, lowest, task_numbers, ticks_over}
 use Rattle.qc_model.proofs.Bays.{bays}
 use Rattle.qc_model.proofs.Extremes.{greatest_le}
 use Rattle.qc_model.proofs.NodeLemmas.{one_crane_apart, true_T}
 use Rattle.qc_close.proofs.CountLemmas.{sum_filter, sums_within}
-use Rattle.qc_laws.proofs.FrameLemmas.{beyond}
+use Rattle.qc_laws.proofs.FrameLemmas.{beyond, HasTime, arrives, at_bay, beside, does_open, feasible_by, has_time, parts}
 use Rattle.qc_close.proofs.Extremes.{highest_to, lowest_from, among_done, greatest_among, highest_at, lowest_at}
-use Rattle.qc_laws.proofs.FrameLemmas.{HasTime, arrives, at_bay, beside, does_open, feasible_by, has_time, parts}
 use Rattle.qc_close.proofs.LoopLemmas.{least_steps}
 use Rattle.qc_close.proofs.Members.{Among, all_at, among_filter, among_map, among_range, filter_among, first_of, least_at, range_among}
 use Rattle.qc_close.proofs.SpanLemmas.{higher_distance, lower_distance}

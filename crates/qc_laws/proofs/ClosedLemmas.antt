@@ -9,28 +9,13 @@ use Rattle.std.proofs.lemmas.List.Sums.{count_by-le-length, sum-map, sum_by-cons
 use Rattle.std.proofs.lemmas.Simd.{map-map}
 use Rattle.std.specs.Option.{option_map_or}
 use Rattle.std.specs.List.{range_with_len}
-use Rattle.qc_model.specs.declared.direction.Direction.{Direction}
-use Rattle.qc_model.specs.declared.direction.Direction.TheVariants.{Up, Down}
-use Rattle.qc_model.specs.declared.frame.Frame.{Frame}
-use Rattle.qc_model.specs.declared.schedule.Slot.{Slot}
-use Rattle.qc_model.specs.declared.turn.Turn.{Turn}
-use Rattle.qc_model.specs.Assignments.{Follows, crane_in, no_cranes}
-use Rattle.qc_model.specs.Closed.{IsClosedBound, Try, bays_to, fewest, grain, is_closed, is_short, is_short_along, is_short_before, last_before, left_at, left_bays, leg, legs, load, most, room, try_of, try_with, work_at}
-use Rattle.qc_model.specs.Barred.{all_done, barred_frame, barring, both_done, done_in, lies, own_or_left, soonest}
-use Rattle.qc_model.specs.Frames.{GoesBy, frame, frame_of, own}
-use Rattle.qc_model.specs.Instance.{InstanceView, Valid, bay_of, crane, no_crane, ticks_of}
-use Rattle.qc_model.specs.Nodes.{berth_wait, free, greatest, least}
-use Rattle.qc_model.specs.Rules.{crane_of, ends}
-use Rattle.qc_model.specs.Ticks.{arrival, berth_clear, berth_distance}
-use Rattle.qc_model.specs.Work.{crane_numbers, task_numbers, ticks_over}
+use Rattle.qc_close.specs.Model.{Direction, Up, Down, Frame, Slot, Turn, Follows, crane_in, no_cranes, IsClosedBound, Try, bays_to, fewest, grain, is_closed, is_short, is_short_along, is_short_before, last_before, left_at, left_bays, leg, legs, load, most, room, try_of, try_with, work_at, all_done, barred_frame, barring, both_done, done_in, lies, own_or_left, soonest, GoesBy, frame, frame_of, own, InstanceView, Valid, bay_of, crane, no_crane, ticks_of, berth_wait, free, greatest, least, crane_of, ends, arrival, berth_clear, berth_distance, crane_numbers, task_numbers, ticks_over, frame_along, longest_way, way_frame, Way}
 use Rattle.qc_close.proofs.CountLemmas.{fewest_le, passing, passing_le, shared, sum_filter, sum_le, sums_within, times_sum, some_term}
 use Rattle.qc_close.proofs.Extremes.{among_done}
 use Rattle.qc_laws.proofs.BarredLemmas.{barred_time}
 use Rattle.qc_laws.proofs.FrameLemmas.{HasTime, at_bay, bay_at, beside, does_open, feasible_by}
 use Rattle.qc_close.proofs.GrainLemmas.{AreMultiples, grain_is, multiple_to}
 use Rattle.qc_close.proofs.LoopLemmas.{least_steps}
-use Rattle.qc_model.specs.Ways.{frame_along, longest_way, way_frame}
-use Rattle.qc_model.specs.declared.way.Way.{Way}
 use Rattle.qc_laws.proofs.WayLemmas.{way_time}
 use Rattle.qc_close.proofs.Members.{Among, among_filter, among_range, filter_among, map_among, range_among}
 use Rattle.qc_close.proofs.CrewLemmas.{none_there}

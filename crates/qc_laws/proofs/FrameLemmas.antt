@@ -4,28 +4,16 @@ use Rattle.std.proofs.Common.{[], ◌≡◌, ◌≢◌, ℕ, ◌+◌, ◌*◌, �
 use Rattle.std.proofs.Math.Nat.{mul-add, mul-le-mul_left}
 use Rattle.std.proofs.lemmas.Bool.{and_parts, cases_Bool, eq-eqb, eqb-true, false≢true}
 use Rattle.std.proofs.lemmas.Int.{by_lt_z, int_max_is, int_min_is, ints}
-use Rattle.std.specs.Int.{int_max, int_min}
+use Rattle.std.specs.Int.{int_min}
 use Rattle.std.specs.List.{list_any, range_with_len}
 use Rattle.std.specs.Option.{option_map_or}
-use Rattle.qc_model.specs.declared.frame.Frame.{Frame}
-use Rattle.qc_model.specs.declared.schedule.Slot.{Slot}
-use Rattle.qc_model.specs.Bays.{at_least_zero, bays_between, bays_up}
-use Rattle.qc_model.specs.Instance.{InstanceView, Valid, bay_of, crane, ticks_of}
-use Rattle.qc_model.specs.Work.{highest, lowest, task_numbers, ticks_over}
-use Rattle.qc_model.specs.OneWay.{GoesUp}
-use Rattle.qc_model.specs.Rules.{Feasible, crane_of, ends, start_of}
-use Rattle.qc_model.specs.Ticks.{arrival}
+use Rattle.qc_close.specs.Model.{Frame, Slot, at_least_zero, bays_between, bays_up, InstanceView, Valid, bay_of, crane, ticks_of, highest, lowest, task_numbers, ticks_over, GoesUp, Feasible, crane_of, ends, start_of, arrival, Up, Down, Turn, OneWay, Free, Follows, crane_in, bays_to, GoesBy, frame, frame_of, own, turn_bays, turn_high}
 use Rattle.qc_model.proofs.Bays.{bays}
 use Rattle.qc_model.proofs.LimitsOf.{counted}
-use Rattle.qc_model.specs.declared.direction.Direction.TheVariants.{Up, Down}
-use Rattle.qc_model.specs.declared.turn.Turn.{Turn}
-use Rattle.qc_model.specs.declared.turn.Turn.TheVariants.{OneWay, Free}
-use Rattle.qc_model.specs.Assignments.{Follows, crane_in}
-use Rattle.qc_model.specs.Closed.{bays_to}
-use Rattle.qc_model.specs.Frames.{GoesBy, frame, frame_of, own, turn_bays, turn_high}
 use Rattle.qc_close.proofs.CountLemmas.{sum_filter, sums_within, some_term}
 use Rattle.qc_close.proofs.Members.{Among, among_filter, among_range, any_at, any_from, filter_among, first_of, range_among}
 use Rattle.qc_laws.proofs.PackLemmas.{ends_in}
+use Rattle.qc_laws.proofs.Paths.{max_first, max_second, min_first, min_second}
 use Rattle.qc_laws.proofs.Rows.{AllClear, AreClear, Row, clear_from, row_after, row_fits, row_of, way, way_between, way_to}
 use Rattle.qc_close.proofs.Extremes.{lowest_from, highest_to}
 
@@ -160,18 +148,6 @@ module _ (inst : InstanceView) (sched : List Slot) (valid : Valid inst) (f : Fea
 
 -- ---- the way beyond a crane's own tasks
 
-low_is : (f b : ℤ) → f ≤ℤ b → f ≡ int_min f b
-low_is f b h = omega (arith, ints, int_min_is f b)
-
-low_is_berth : (f b : ℤ) → b ≤ℤ f → b ≡ int_min f b
-low_is_berth f b h = omega (arith, ints, int_min_is f b)
-
-high_is : (l b : ℤ) → b ≤ℤ l → l ≡ int_max l b
-high_is l b h = omega (arith, ints, int_max_is l b)
-
-high_is_berth : (l b : ℤ) → l ≤ℤ b → b ≡ int_max l b
-high_is_berth l b h = omega (arith, ints, int_max_is l b)
-
 -- with its own tasks from f to l and all from low to high
 module _ (b f l low high : ℤ) (down : low ≤ℤ f) (own_up : f ≤ℤ l) (up_to : l ≤ℤ high) where
   pub parts : bays_up low high ≡ bays_up low f + bays_up f l + bays_up l high
@@ -207,11 +183,11 @@ module _ (b f l low high : ℤ) (down : low ≤ℤ f) (own_up : f ≤ℤ l) (up_
       (λ under.
       let low_at : b ≤ℤ f = omega (arith, ints) in
       let less = below_low low_at in
-      let is = ap (bays_up low) (low_is_berth f b low_at) in
+      let is = ap (bays_up low) (min_second f b low_at) in
       omega (arith, less, is, parts))
       (λ over.
       let less = above_low over in
-      let is = ap (bays_up low) (low_is f b over) in
+      let is = ap (bays_up low) (min_first f b over) in
       omega (arith, less, is, parts))
   beyond Free = by_lt_z b f
       (λ under.
@@ -219,22 +195,22 @@ module _ (b f l low high : ℤ) (down : low ≤ℤ f) (own_up : f ≤ℤ l) (up_
       let high_at : b ≤ℤ l = omega (arith, ints) in
       let less = below_low low_at in
       let less_too = below_low_too low_at in
-      let is = ap (bays_up low) (low_is_berth f b low_at) in
-      let is_high = ap (λ x. bays_up x high) (high_is l b high_at) in
+      let is = ap (bays_up low) (min_second f b low_at) in
+      let is_high = ap (λ x. bays_up x high) (max_first l b high_at) in
       omega (arith, less, less_too, is, is_high, parts))
       (λ over.
       let less = above_low over in
-      let is = ap (bays_up low) (low_is f b over) in
+      let is = ap (bays_up low) (min_first f b over) in
       by_lt_z l b
       (λ above.
       let high_at : l ≤ℤ b = omega (arith, ints) in
       let more = above_high high_at in
       let more_too = above_high_too high_at in
-      let is_high = ap (λ x. bays_up x high) (high_is_berth l b high_at) in
+      let is_high = ap (λ x. bays_up x high) (max_second l b high_at) in
       omega (arith, more, more_too, is, is_high, parts))
       (λ within.
       let more = below_high within in
-      let is_high = ap (λ x. bays_up x high) (high_is l b within) in
+      let is_high = ap (λ x. bays_up x high) (max_first l b within) in
       omega (arith, less, more, is, is_high, parts)))
 
 -- with none of its own

@@ -3,14 +3,7 @@ use Rattle.std.proofs.Common.{◌≡◌, ℕ, ◌+◌, ◌<◌, ◌≤◌, true,
 use Rattle.std.proofs.lemmas.Bool.{cases_Bool, cond-false}
 use Rattle.std.proofs.lemmas.List.FromFn.{get_or-map-range_with_len}
 use Rattle.std.proofs.lemmas.Option.{option_and_then_some}
-use Rattle.qc_model.specs.declared.decision.Decision.{Decision}
-use Rattle.qc_model.specs.declared.schedule.Slot.{Slot}
-use Rattle.qc_model.specs.Instance.{InstanceView, Valid}
-use Rattle.qc_model.specs.Early.{early}
-use Rattle.qc_model.specs.Frames.{GoesBy}
-use Rattle.qc_model.specs.Leaves.{Leaf, leaf_value, packed_end}
-use Rattle.qc_model.specs.Nodes.{Agrees, Fits, assigned, least}
-use Rattle.qc_model.specs.Rules.{crane_of, ends, starts}
+use Rattle.qc_close.specs.Model.{Decision, Slot, InstanceView, Valid, early, GoesBy, Leaf, leaf_value, packed_end, Agrees, Fits, assigned, least, crane_of, ends, starts, Follows, cranes_of, is_closed, is_packed, pack}
 use Rattle.qc_num.specs.Bounds.{IsAtMost}
 use Rattle.qc_num.specs.declared.bound.Bound.{Bound}
 use Rattle.qc_num.specs.declared.bound.Bound.TheVariants.{Least}
@@ -18,9 +11,6 @@ use Rattle.qc_model.proofs.LeafLemmas.{leaf_value_le}
 use Rattle.qc_model.proofs.LeastStarts.{early_le}
 use Rattle.qc_model.proofs.NodeLemmas.{assigned_is, meets_by, start_at}
 use Rattle.qc_model.proofs.TurnLemmas.{by_feasible}
-use Rattle.qc_model.specs.Assignments.{Follows, cranes_of}
-use Rattle.qc_model.specs.Closed.{is_closed}
-use Rattle.qc_model.specs.Packs.{is_packed, pack}
 use Rattle.qc_laws.proofs.ClosedLemmas.{closed_end_le}
 use Rattle.qc_laws.proofs.PackLemmas.{pack_end_le}
 use Rattle.qc_close.proofs.SpanLemmas.{packed_range}

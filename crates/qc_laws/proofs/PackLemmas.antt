@@ -6,17 +6,9 @@ use Rattle.std.proofs.lemmas.Int.{by_lt_z, ints}
 use Rattle.std.proofs.lemmas.List.{length-map}
 use Rattle.std.proofs.lemmas.List.Sums.{sum_by-cons}
 use Rattle.std.specs.List.{list_all, range_with_len}
-use Rattle.qc_model.specs.declared.schedule.Slot.{Slot}
-use Rattle.qc_model.specs.Bays.{bays_between, bays_up}
-use Rattle.qc_model.specs.Instance.{InstanceView, bay_of, ticks_of}
-use Rattle.qc_model.specs.Work.{ticks_over}
-use Rattle.qc_model.specs.Nodes.{least, reaches}
-use Rattle.qc_model.specs.Rules.{Feasible, crane_of, end_of, ends, start_of, starts}
-use Rattle.qc_model.specs.Ticks.{task_distance, travel_between}
+use Rattle.qc_close.specs.Model.{Slot, bays_between, bays_up, InstanceView, bay_of, ticks_of, ticks_over, least, reaches, Feasible, crane_of, end_of, ends, start_of, starts, task_distance, travel_between, Follows, crane_in, cranes_by, cranes_for, place, IsPackBound, all_clash, all_differ, clash, is_doable, is_packed, may_lie, pack, places, span, stretches}
 use Rattle.qc_model.proofs.Bays.{bays}
 use Rattle.qc_model.proofs.NodeLemmas.{T_true, ends_by, if_some, start_at}
-use Rattle.qc_model.specs.Assignments.{Follows, crane_in, cranes_by, cranes_for, place}
-use Rattle.qc_model.specs.Packs.{IsPackBound, all_clash, all_differ, clash, is_doable, is_packed, may_lie, pack, places, span, stretches}
 use Rattle.qc_close.proofs.Members.{Among, contains_of, all_at, all_from, among_filter, among_flat, among_map, among_range, any_from, first_of, least_at}
 use Rattle.qc_laws.proofs.Rows.{AllClear, AreClear, Row, row_fits, row_of, way, way_between}
 use Rattle.qc_close.proofs.SpanLemmas.{lower_distance, higher_distance, some_bays}

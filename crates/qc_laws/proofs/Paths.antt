@@ -90,17 +90,17 @@ swings_to f k (suc n) low none = elim (cases_lt n k) [
 
 -- ---- what of a step lies between two places, above and below
 
-low_is : (h x : ℤ) → x ≤ℤ h → int_min h x ≡ x
-low_is h x le = omega (arith, ints, int_min_is h x)
+pub min_second : (h x : ℤ) → x ≤ℤ h → int_min h x ≡ x
+min_second h x le = omega (arith, ints, int_min_is h x)
 
-high_is : (h x : ℤ) → h ≤ℤ x → int_min h x ≡ h
-high_is h x le = omega (arith, ints, int_min_is h x)
+pub min_first : (h x : ℤ) → h ≤ℤ x → int_min h x ≡ h
+min_first h x le = omega (arith, ints, int_min_is h x)
 
-above_is : (l x : ℤ) → l ≤ℤ x → int_max l x ≡ x
-above_is l x le = omega (arith, ints, int_max_is l x)
+pub max_second : (l x : ℤ) → l ≤ℤ x → int_max l x ≡ x
+max_second l x le = omega (arith, ints, int_max_is l x)
 
-below_is : (l x : ℤ) → x ≤ℤ l → int_max l x ≡ l
-below_is l x le = omega (arith, ints, int_max_is l x)
+pub max_first : (l x : ℤ) → x ≤ℤ l → int_max l x ≡ l
+max_first l x le = omega (arith, ints, int_max_is l x)
 
 -- how much two numbers differ
 abbrev pub differ : ℕ → ℕ → ℕ
@@ -111,27 +111,27 @@ top_parts : (h x y : ℤ)
 top_parts h x y = by_lt_z h x
     (λ over. by_lt_z h y
     (λ also.
-    let e = high_is h x (omega (arith, ints)) in
-    let f = high_is h y (omega (arith, ints)) in
+    let e = min_first h x (omega (arith, ints)) in
+    let f = min_first h y (omega (arith, ints)) in
     let none = none_between (int_min h x) (int_min h y) (e ∙ sym f) in
     let all : bays_between x y ≡ differ (bays_up h x) (bays_up h y) = omega (arith, bays, over, also) in
     omega (arith, none, all))
     (λ under.
-    let e = high_is h x (omega (arith, ints)) in
-    let f = low_is h y under in
+    let e = min_first h x (omega (arith, ints)) in
+    let f = min_second h y under in
     let same = ap (λ a. bays_between a (int_min h y)) e ∙ ap (λ b. bays_between h b) f in
     let all : bays_between x y ≡ bays_between h y + differ (bays_up h x) (bays_up h y) = omega (arith, bays, over, under) in
     omega (arith, same, all)))
     (λ under. by_lt_z h y
     (λ over.
-    let e = low_is h x under in
-    let f = high_is h y (omega (arith, ints)) in
+    let e = min_second h x under in
+    let f = min_first h y (omega (arith, ints)) in
     let same = ap (λ a. bays_between a (int_min h y)) e ∙ ap (λ b. bays_between x b) f in
     let all : bays_between x y ≡ bays_between x h + differ (bays_up h x) (bays_up h y) = omega (arith, bays, over, under) in
     omega (arith, same, all))
     (λ also.
-    let e = low_is h x under in
-    let f = low_is h y also in
+    let e = min_second h x under in
+    let f = min_second h y also in
     let same = ap (λ a. bays_between a (int_min h y)) e ∙ ap (λ b. bays_between x b) f in
     let none : differ (bays_up h x) (bays_up h y) ≡ 0 = omega (arith, bays, under, also) in
     omega (arith, same, none)))
@@ -141,27 +141,27 @@ bottom_parts : (l x y : ℤ)
 bottom_parts l x y = by_lt_z x l
     (λ under. by_lt_z y l
     (λ also.
-    let e = below_is l x (omega (arith, ints)) in
-    let f = below_is l y (omega (arith, ints)) in
+    let e = max_first l x (omega (arith, ints)) in
+    let f = max_first l y (omega (arith, ints)) in
     let none = none_between (int_max l x) (int_max l y) (e ∙ sym f) in
     let all : bays_between x y ≡ differ (bays_up x l) (bays_up y l) = omega (arith, bays, under, also) in
     omega (arith, none, all))
     (λ over.
-    let e = below_is l x (omega (arith, ints)) in
-    let f = above_is l y over in
+    let e = max_first l x (omega (arith, ints)) in
+    let f = max_second l y over in
     let same = ap (λ a. bays_between a (int_max l y)) e ∙ ap (λ b. bays_between l b) f in
     let all : bays_between x y ≡ bays_between l y + differ (bays_up x l) (bays_up y l) = omega (arith, bays, over, under) in
     omega (arith, same, all)))
     (λ over. by_lt_z y l
     (λ under.
-    let e = above_is l x over in
-    let f = below_is l y (omega (arith, ints)) in
+    let e = max_second l x over in
+    let f = max_first l y (omega (arith, ints)) in
     let same = ap (λ a. bays_between a (int_max l y)) e ∙ ap (λ b. bays_between x b) f in
     let all : bays_between x y ≡ bays_between x l + differ (bays_up x l) (bays_up y l) = omega (arith, bays, over, under) in
     omega (arith, same, all))
     (λ also.
-    let e = above_is l x over in
-    let f = above_is l y also in
+    let e = max_second l x over in
+    let f = max_second l y also in
     let same = ap (λ a. bays_between a (int_max l y)) e ∙ ap (λ b. bays_between x b) f in
     let none : differ (bays_up x l) (bays_up y l) ≡ 0 = omega (arith, bays, over, also) in
     omega (arith, same, none)))
@@ -174,11 +174,11 @@ module _ (l h : ℤ) (order : l ≤ℤ h) where
   under_same : (x : ℤ) → bays_up (int_min h x) l ≡ bays_up x l
   under_same x = by_lt_z h x
       (λ over.
-      let e = ap (λ a. bays_up a l) (high_is h x (omega (arith, ints))) in
+      let e = ap (λ a. bays_up a l) (min_first h x (omega (arith, ints))) in
       let none : bays_up h l ≡ 0 = omega (arith, bays, order) in
       let also : bays_up x l ≡ 0 = omega (arith, bays, order, over) in
       omega (arith, e, none, also))
-      (λ under. ap (λ a. bays_up a l) (low_is h x under))
+      (λ under. ap (λ a. bays_up a l) (min_second h x under))
 
   step_parts : (x y : ℤ) → bays_between x y
       ≡ bays_between (cut l h x) (cut l h y) + differ (bays_up h x) (bays_up h y) + differ (bays_up x l) (bays_up y l)
@@ -199,18 +199,18 @@ module _ (l h : ℤ) (order : l ≤ℤ h) where
   pub cut_above : (x : ℤ) → 0 < bays_up h x → (cut l h x ≡ h) × (bays_up x l ≡ 0)
   cut_above x some =
       let over : h ≤ℤ x = omega (arith, bays, some) in
-      let e = high_is h x over in
-      (ap (int_max l) e ∙ above_is l h order, omega (arith, bays, over, order))
+      let e = min_first h x over in
+      (ap (int_max l) e ∙ max_second l h order, omega (arith, bays, over, order))
 
   pub cut_below : (x : ℤ) → 0 < bays_up x l → (cut l h x ≡ l) × (bays_up h x ≡ 0)
   cut_below x some =
       let under : x ≤ℤ l = omega (arith, bays, some) in
       let low : x ≤ℤ h = omega (arith, ints, under, order) in
-      let e = low_is h x low in
-      (ap (int_max l) e ∙ below_is l x under, omega (arith, bays, low))
+      let e = min_second h x low in
+      (ap (int_max l) e ∙ max_first l x under, omega (arith, bays, low))
 
   pub cut_at : (x : ℤ) → l ≤ℤ x → x ≤ℤ h → cut l h x ≡ x
-  cut_at x low high = ap (int_max l) (low_is h x high) ∙ above_is l x low
+  cut_at x low high = ap (int_max l) (min_second h x high) ∙ max_second l x low
 
   pub cut_over : (z x : ℤ) → z ≤ℤ x → z ≤ℤ h → z ≤ℤ cut l h x
   cut_over z x le high = omega (arith, ints, int_max_is l (int_min h x), int_min_is h x, le, high)

@@ -6,15 +6,10 @@ use Rattle.std.proofs.lemmas.Bool.{cases_order, cond_both, eq-eqb, le-ltb, lt-lt
 use Rattle.std.proofs.lemmas.Int.{by_lt_z, int_max_is, int_min_is, ints}
 use Rattle.std.specs.Int.{int_max, int_min}
 use Rattle.std.specs.List.{range_with_len}
-use Rattle.qc_model.specs.Assignments.{crane_in}
-use Rattle.qc_model.specs.Bays.{bays_between}
-use Rattle.qc_model.specs.Instance.{InstanceView, bay_of}
-use Rattle.qc_model.specs.Motion.{bay_ahead, bay_behind, scaled}
+use Rattle.qc_close.specs.Model.{crane_in, bays_between, InstanceView, bay_of, bay_ahead, bay_behind, scaled, stand, trip_along, trip_for, trip_to, Trip}
 use Rattle.qc_model.proofs.Bays.{bays}
 use Rattle.qc_model.proofs.Scaled.{scaled_le}
 use Rattle.qc_close.proofs.Members.{Among}
-use Rattle.qc_model.specs.Ways.{stand, trip_along, trip_for, trip_to}
-use Rattle.qc_model.specs.declared.way.Trip.{Trip}
 use Rattle.qc_laws.proofs.Paths.{cut, cut_at, cut_over, cut_under, goes, moved, scaled_between, triangle}
 
 -- ---- where a crane stands while another works

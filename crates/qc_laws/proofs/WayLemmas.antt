@@ -1,23 +1,12 @@
 -- By the longest of its ways too, a crane has had the time, when a schedule ends, for what its frame says.
-use Rattle.std.proofs.Common.{[], ◌≡◌, ℕ, ◌+◌, ◌*◌, ◌<◌, ◌≤◌, min, ◌⊎◌, inl, inr, Bool, true, ◌||◌, eqb, nat_lt, List, ◌∷◌, length, map, Option, is_some, ℤ, pos, ◌≤ℤ◌, ◌<ℤ◌, refl, ap, sym, subst, ◌∙◌, arith, filter}
+use Rattle.std.proofs.Common.{[], ◌≡◌, ℕ, ◌+◌, ◌*◌, ◌<◌, ◌≤◌, min, ◌⊎◌, inl, inr, Bool, true, ◌||◌, eqb, nat_lt, List, ◌∷◌, length, map, Option, is_some, ℤ, pos, ◌≤ℤ◌, refl, ap, sym, subst, ◌∙◌, arith, filter}
 use Rattle.std.proofs.Math.Nat.{mul-add, mul-le-mul_left, mul-zero}
 use Rattle.std.proofs.lemmas.Bool.{cond_both, eqb-true, false≢true, le-ltb, or_cases}
 use Rattle.std.proofs.lemmas.Int.{by_lt_z, int_max_is, int_min_is, ints}
 use Rattle.std.proofs.lemmas.Nat.{mul-le}
 use Rattle.std.specs.Int.{int_max, int_min}
 use Rattle.std.specs.List.{list_all, range_with_len}
-use Rattle.qc_model.specs.declared.frame.Frame.{Frame}
-use Rattle.qc_model.specs.declared.schedule.Slot.{Slot}
-use Rattle.qc_model.specs.declared.turn.Turn.{Turn}
-use Rattle.qc_model.specs.declared.turn.Turn.TheVariants.{OneWay, Free}
-use Rattle.qc_model.specs.Assignments.{Follows, crane_in}
-use Rattle.qc_model.specs.Barred.{all_done, barred_frame, barring, both_done, done_in, lies, own_or_left}
-use Rattle.qc_model.specs.Bays.{at_least_zero, bays_between, bays_up}
-use Rattle.qc_model.specs.Frames.{GoesBy, frame, frame_of, own, turn_high}
-use Rattle.qc_model.specs.Instance.{InstanceView, Valid, bay_of, crane}
-use Rattle.qc_model.specs.Motion.{scaled}
-use Rattle.qc_model.specs.Rules.{Feasible, crane_of, ends, start_of}
-use Rattle.qc_model.specs.Work.{highest, lowest, task_numbers, ticks_over}
+use Rattle.qc_close.specs.Model.{Frame, Slot, Turn, OneWay, Free, Follows, crane_in, all_done, barred_frame, barring, both_done, done_in, lies, own_or_left, at_least_zero, bays_between, bays_up, GoesBy, frame, frame_of, own, turn_high, InstanceView, Valid, bay_of, crane, scaled, Feasible, crane_of, ends, start_of, highest, lowest, task_numbers, ticks_over, frame_along, longest_way, own_bays, own_way, tasks_at, trip_along, trip_from, way_at, way_frame, Trip, Way}
 use Rattle.qc_model.proofs.Bays.{bays}
 use Rattle.qc_model.proofs.Scaled.{scaled_le}
 use Rattle.qc_close.proofs.Extremes.{among_done, greatest_among}
@@ -25,10 +14,7 @@ use Rattle.qc_laws.proofs.BarredLemmas.{barred_time}
 use Rattle.qc_laws.proofs.FrameLemmas.{HasTime, at_bay, beside, does_open, feasible_by, on_open, own_on, sums}
 use Rattle.qc_close.proofs.LoopLemmas.{least_steps}
 use Rattle.qc_close.proofs.Members.{Among, among_filter, among_range, filter_among, map_among, range_among}
-use Rattle.qc_model.specs.Ways.{frame_along, longest_way, own_bays, own_way, tasks_at, trip_along, trip_from, way_at, way_frame}
-use Rattle.qc_model.specs.declared.way.Trip.{Trip}
-use Rattle.qc_model.specs.declared.way.Way.{Way}
-use Rattle.qc_laws.proofs.Paths.{cut, cut_at, goes_beyond, moved, scaled_up}
+use Rattle.qc_laws.proofs.Paths.{cut, cut_at, goes_beyond, max_first, max_second, min_first, min_second, moved, scaled_up}
 use Rattle.qc_laws.proofs.Tracks.{allows, goes_soon, spent, starts_within, track, waits, works}
 use Rattle.qc_laws.proofs.Trips.{AreTimely, HasGone, goes_along, high_rises, low_falls, stays_within, timely_from}
 use Rattle.qc_close.proofs.LongestLemmas.{longest_is}
@@ -80,6 +66,16 @@ times_aside n u v p q =
 -- ---- a bay that is at least all of some, and of which something holds that holds of each
 
 module _ (inst : InstanceView) (P : ℤ → Type 0) where
+  max_holds : (x y : ℤ) → P x → P y → P (int_max x y)
+  max_holds x y p q = by_lt_z x y
+      (λ less. subst P (sym (max_second x y (omega (arith, ints, less)))) q)
+      (λ most. subst P (sym (max_first x y most)) p)
+
+  min_holds : (x y : ℤ) → P x → P y → P (int_min x y)
+  min_holds x y p q = by_lt_z x y
+      (λ less. subst P (sym (min_first x y (omega (arith, ints, less)))) p)
+      (λ most. subst P (sym (min_second x y most)) q)
+
   pub record IsTop (x : ℤ) (js : List ℕ) : Type 0 where
     pub top : ℤ
     pub from : x ≤ℤ top
@@ -90,25 +86,18 @@ module _ (inst : InstanceView) (P : ℤ → Type 0) where
   top_of x [] first each = record { top = x; from = omega (arith, ints); most = λ j a. absurd a; holds = first }
   top_of x (j ∷ js) first each =
       let rest = top_of x js first (λ k a. each k (inr a)) in
-      more rest.top rest.from rest.most rest.holds
+      let is = int_max_is rest.top (bay_of inst j) in
+      record {
+        top = int_max rest.top (bay_of inst j);
+        from = omega (arith, ints, is, rest.from);
+        most = all rest.top rest.most;
+        holds = max_holds rest.top (bay_of inst j) rest.holds (each j (inl refl));
+      }
     where
-      more : (y : ℤ) → x ≤ℤ y → ((k : ℕ) → Among js k → bay_of inst k ≤ℤ y) → P y → IsTop x (j ∷ js)
-      more y from most holds = by_lt_z y (bay_of inst j)
-          (λ less. record {
-            top = bay_of inst j;
-            from = omega (arith, ints, from, less);
-            most = λ k a. all k a less;
-            holds = each j (inl refl);
-          })
-          (λ enough. record { top = y; from = from; most = λ k a. kept k a enough; holds = holds })
-        where
-          all : (k : ℕ) → Among (j ∷ js) k → y <ℤ bay_of inst j → bay_of inst k ≤ℤ bay_of inst j
-          all k (inl e) less = let same = ap (bay_of inst) e in omega (arith, ints, same)
-          all k (inr a) less = let le = most k a in omega (arith, ints, le, less)
-
-          kept : (k : ℕ) → Among (j ∷ js) k → bay_of inst j ≤ℤ y → bay_of inst k ≤ℤ y
-          kept k (inl e) enough = let same = ap (bay_of inst) e in omega (arith, ints, same, enough)
-          kept k (inr a) enough = most k a
+      all : (z : ℤ) → ((k : ℕ) → Among js k → bay_of inst k ≤ℤ z) → (k : ℕ) → Among (j ∷ js) k
+          → bay_of inst k ≤ℤ int_max z (bay_of inst j)
+      all z most k (inl e) = let same = ap (bay_of inst) e in omega (arith, ints, same, int_max_is z (bay_of inst j))
+      all z most k (inr a) = let le = most k a in omega (arith, ints, le, int_max_is z (bay_of inst j))
 
   -- and one that is at most all
   pub record IsBottom (x : ℤ) (js : List ℕ) : Type 0 where
@@ -121,49 +110,20 @@ module _ (inst : InstanceView) (P : ℤ → Type 0) where
   bottom_of x [] first each = record { bottom = x; to = omega (arith, ints); least = λ j a. absurd a; holds = first }
   bottom_of x (j ∷ js) first each =
       let rest = bottom_of x js first (λ k a. each k (inr a)) in
-      more rest.bottom rest.to rest.least rest.holds
+      let is = int_min_is rest.bottom (bay_of inst j) in
+      record {
+        bottom = int_min rest.bottom (bay_of inst j);
+        to = omega (arith, ints, is, rest.to);
+        least = all rest.bottom rest.least;
+        holds = min_holds rest.bottom (bay_of inst j) rest.holds (each j (inl refl));
+      }
     where
-      more : (y : ℤ) → y ≤ℤ x → ((k : ℕ) → Among js k → y ≤ℤ bay_of inst k) → P y → IsBottom x (j ∷ js)
-      more y to least holds = by_lt_z (bay_of inst j) y
-          (λ less. record {
-            bottom = bay_of inst j;
-            to = omega (arith, ints, to, less);
-            least = λ k a. all k a less;
-            holds = each j (inl refl);
-          })
-          (λ enough. record { bottom = y; to = to; least = λ k a. kept k a enough; holds = holds })
-        where
-          all : (k : ℕ) → Among (j ∷ js) k → bay_of inst j <ℤ y → bay_of inst j ≤ℤ bay_of inst k
-          all k (inl e) less = let same = ap (bay_of inst) e in omega (arith, ints, same)
-          all k (inr a) less = let le = least k a in omega (arith, ints, le, less)
-
-          kept : (k : ℕ) → Among (j ∷ js) k → y ≤ℤ bay_of inst j → y ≤ℤ bay_of inst k
-          kept k (inl e) enough = let same = ap (bay_of inst) e in omega (arith, ints, same, enough)
-          kept k (inr a) enough = least k a
+      all : (z : ℤ) → ((k : ℕ) → Among js k → z ≤ℤ bay_of inst k) → (k : ℕ) → Among (j ∷ js) k
+          → int_min z (bay_of inst j) ≤ℤ bay_of inst k
+      all z least k (inl e) = let same = ap (bay_of inst) e in omega (arith, ints, same, int_min_is z (bay_of inst j))
+      all z least k (inr a) = let le = least k a in omega (arith, ints, le, int_min_is z (bay_of inst j))
 
   -- the frame of some tasks comes no further than to one of them or to the berth
-  max_holds : (x y : ℤ) → P x → P y → P (int_max x y)
-  max_holds x y p q = by_lt_z x y
-      (λ less. subst P (right x y (omega (arith, ints, less))) q)
-      (λ most. subst P (left x y most) p)
-    where
-      right : (x y : ℤ) → x ≤ℤ y → y ≡ int_max x y
-      right x y le = omega (arith, ints, int_max_is x y)
-
-      left : (x y : ℤ) → y ≤ℤ x → x ≡ int_max x y
-      left x y le = omega (arith, ints, int_max_is x y)
-
-  min_holds : (x y : ℤ) → P x → P y → P (int_min x y)
-  min_holds x y p q = by_lt_z x y
-      (λ less. subst P (left x y (omega (arith, ints, less))) p)
-      (λ most. subst P (right x y most) q)
-    where
-      left : (x y : ℤ) → x ≤ℤ y → x ≡ int_min x y
-      left x y le = omega (arith, ints, int_min_is x y)
-
-      right : (x y : ℤ) → y ≤ℤ x → y ≡ int_min x y
-      right x y le = omega (arith, ints, int_min_is x y)
-
   highest_holds : (j : ℕ) (js : List ℕ) → ((k : ℕ) → Among (j ∷ js) k → P (bay_of inst k)) → P (highest inst j js)
   highest_holds j [] each = each j (inl refl)
   highest_holds j (i ∷ is) each =

@@ -8,18 +8,7 @@
 #![tactic(auto)]
 
 ghost use Rattle.std.specs.Prelude.{◌≡◌, ◌≤◌, ℕ, List, Option, Some, true};
-ghost use Rattle.qc_model.specs.declared.decision.Decision.{Decision};
-ghost use Rattle.qc_model.specs.declared.schedule.Slot.{Slot};
-ghost use Rattle.qc_model.specs.Instance.{InstanceView, Valid};
-ghost use Rattle.qc_model.specs.Frames.{GoesBy};
-ghost use Rattle.qc_model.specs.Leaves.{packed_end};
-ghost use Rattle.qc_model.specs.Nodes.{Agrees};
-ghost use Rattle.qc_model.specs.Rules.{ends};
-ghost use Rattle.qc_model.specs.declared.turn.Turn.{Turn};
-ghost use Rattle.qc_model.specs.Assignments.{AreInRange, cranes_of};
-ghost use Rattle.qc_model.specs.Closed.{IsClosedBound, is_closed};
-ghost use Rattle.qc_model.specs.Packs.{IsPackBound, pack};
-ghost use Rattle.qc_model.specs.declared.limits.TheConstants.{MOST_START};
+ghost use Rattle.qc_close.specs.Model.{Decision, Slot, InstanceView, Valid, GoesBy, packed_end, Agrees, ends, Turn, AreInRange, cranes_of, IsClosedBound, is_closed, IsPackBound, pack, MOST_START};
 
 /// Packed tasks take no fewer ticks than this in any feasible schedule that follows the assignment, from when the
 /// first of them can start to the end.

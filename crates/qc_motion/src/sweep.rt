@@ -1,3 +1,5 @@
+//! One crane and the tasks on both sides of it, moment by moment.
+
 ghost use Rattle.std.specs.Prelude.{◌≡◌, ◌+◌, ◌≤◌, ◌<◌, length, MatchOption};
 ghost use Rattle.qc_model.specs.declared.limits.TheConstants.{MOST_END};
 ghost use Rattle.qc_model.specs.Instance.{IsOnRail, Valid, crane as crane_at};

@@ -1,3 +1,5 @@
+//! The waypoints of a crane in a schedule that goes one way.
+
 ghost use Rattle.std.specs.Prelude.{◌≡◌, ◌≤◌, ◌<◌, length};
 ghost use Rattle.qc_model.specs.Judge.{Goes, IsJudgeable};
 ghost use Rattle.qc_model.specs.Limits.{IsPlaceNear};

@@ -1,3 +1,5 @@
+//! Waypoints, as they are kept.
+
 ghost use Rattle.std.specs.Prelude.{◌≡◌, ◌+◌, ◌*◌, ◌<◌, [], ◌∷◌, ◌++◌, length, IfOk};
 ghost use Rattle.qc_motion.specs.Tracks.{TrackView};
 ghost use Rattle.qc_motion.specs.Room.{HasRoom};

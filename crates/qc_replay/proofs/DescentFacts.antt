@@ -2,9 +2,7 @@
 use Rattle.std.proofs.Common.{◌≡◌, ℕ, ◌<◌, true, cond, List, [], ◌∷◌, ◌++◌, length, map, drop, sym, ap, ◌∙◌}
 use Rattle.std.proofs.lemmas.Bool.{lt-ltb}
 use Rattle.qc_dist.proofs.ChildLemmas.{cranes_from}
-use Rattle.qc_model.specs.declared.decision.Decision.{Decision}
-use Rattle.qc_model.specs.declared.decision.Decision.TheVariants.{Assign, Order}
-use Rattle.qc_model.specs.Work.{crane_numbers}
+use Rattle.qc_close.specs.Model.{Decision, Assign, Order, crane_numbers}
 use Rattle.qc_dist.specs.Children.{behind}
 use Rattle.qc_replay.specs.Part.{Standing, nodes}
 

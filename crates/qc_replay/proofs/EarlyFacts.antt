@@ -2,11 +2,7 @@
 use Rattle.std.proofs.Common.{◌≡◌, ℕ, zero, suc, ◌+◌, ◌-◌, ◌<◌, ◌⊎◌, inl, inr, false, List, [], ◌∷◌, length, map, drop, Option, None, Some, refl, ap, sym, subst₂, ◌∙◌, arith, option_map, unwrap_or}
 use Rattle.std.proofs.lemmas.Bool.{cases_lt}
 use Rattle.qc_dist.specs.Node.{IsOpen}
-use Rattle.qc_model.specs.declared.decision.Decision.{Decision}
-use Rattle.qc_model.specs.declared.decision.Decision.TheVariants.{Assign, Order}
-use Rattle.qc_model.specs.Early.{least_starts}
-use Rattle.qc_model.specs.Instance.{InstanceView, Valid}
-use Rattle.qc_model.specs.Nodes.{AreLeast, Fits, HasStarts, IsInReach, least}
+use Rattle.qc_close.specs.Model.{Decision, Assign, Order, least_starts, InstanceView, Valid, AreLeast, Fits, HasStarts, IsInReach, least}
 use Rattle.qc_model.proofs.LeastStarts.{found_of, least_found, reach_fact, reach_test}
 use Rattle.qc_model.proofs.NodeLemmas.{unsettled_unordered}
 use Rattle.qc_starts.proofs.Growth.{meets_before}

@@ -5,20 +5,7 @@ use Rattle.std.specs.Option.{option_map_or}
 use Rattle.std.proofs.lemmas.Bool.{and_parts, cond_both, leb-true}
 use Rattle.std.proofs.lemmas.Nat.{mul-le}
 use Rattle.qc_num.specs.declared.bound.Bound.TheVariants.{Least, Never}
-use Rattle.qc_model.specs.declared.decision.Decision.{Decision}
-use Rattle.qc_model.specs.Bays.{bays_up, bays_between}
-use Rattle.qc_model.specs.Instance.{InstanceView, Valid, IsOnRail, bay_of, ticks_of, crane}
-use Rattle.qc_model.specs.Assignments.{cranes_of}
-use Rattle.qc_model.specs.Leaves.{Leaf, are_tasks, chain, chain_end, chain_ticks, is_ring, is_out_of_reach, leaf_value, packed, packed_end, reach, ring, work, work_over}
-use Rattle.qc_model.specs.Work.{task_numbers}
-use Rattle.qc_model.specs.Early.{are_met, early, early_by, is_in_reach, let_by, put_off, starts_after}
-use Rattle.qc_model.specs.Nodes.{Fits, assigned, berth_wait, crane_ticks, forced, free, head, head_by, is_sooner, least, pair_ticks, reaches, separation, sooner_ticks}
-use Rattle.qc_model.specs.Packs.{pack}
-use Rattle.qc_model.specs.Ticks.{arrival, berth_clear, berth_distance, climb, distance, lead, task_distance, travel_between}
-use Rattle.qc_model.specs.declared.limits.TheConstants.{MOST_BAYS, MOST_DISTANCE, MOST_GAP_BY_PLACES, MOST_READY, MOST_TASKS, MOST_TRAVEL, MOST_WORK}
-use Rattle.qc_model.specs.declared.direction.Direction.TheVariants.{Up}
-use Rattle.qc_model.specs.declared.turn.Turn.{Turn}
-use Rattle.qc_model.specs.declared.turn.Turn.TheVariants.{OneWay, Free}
+use Rattle.qc_close.specs.Model.{Decision, bays_up, bays_between, InstanceView, Valid, IsOnRail, bay_of, ticks_of, crane, cranes_of, Leaf, are_tasks, chain, chain_end, chain_ticks, is_ring, is_out_of_reach, leaf_value, packed, packed_end, reach, ring, work, work_over, task_numbers, are_met, early, early_by, is_in_reach, let_by, put_off, starts_after, Fits, assigned, berth_wait, crane_ticks, forced, free, head, head_by, is_sooner, least, pair_ticks, reaches, separation, sooner_ticks, pack, arrival, berth_clear, berth_distance, climb, distance, lead, task_distance, travel_between, MOST_BAYS, MOST_DISTANCE, MOST_GAP_BY_PLACES, MOST_READY, MOST_TASKS, MOST_TRAVEL, MOST_WORK, Up, Turn, OneWay, Free}
 use Rattle.qc_model.proofs.Bays.{bays}
 use Rattle.qc_model.proofs.Extremes.{greatest_le}
 use Rattle.qc_model.proofs.LeafLemmas.{joined}

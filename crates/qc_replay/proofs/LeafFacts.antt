@@ -1,10 +1,7 @@
 -- What chains, rings and packed tasks come to, step by step.
 use Rattle.std.proofs.Common.{◌≡◌, ℕ, ◌+◌, List, [], ◌∷◌, ◌++◌, None, Some, sym, ap, ◌∙◌, arith, option_map}
 use Rattle.std.proofs.lemmas.List.{append-nil}
-use Rattle.qc_model.specs.declared.decision.Decision.{Decision}
-use Rattle.qc_model.specs.Instance.{InstanceView, ticks_of}
-use Rattle.qc_model.specs.Leaves.{chain_end, chain_ticks}
-use Rattle.qc_model.specs.Nodes.{head}
+use Rattle.qc_close.specs.Model.{Decision, InstanceView, ticks_of, chain_end, chain_ticks, head}
 
 module _ (inst : InstanceView) (ds : List Decision) (first : ℕ) (tasks : List ℕ) where
   -- nothing leads along the tasks, whatever follows them

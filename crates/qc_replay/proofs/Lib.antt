@@ -13,4 +13,3 @@ pub mod WalkFacts
 pub mod LeafBounds
 pub mod TreeTextLemmas
 pub mod TreeFacts
-pub mod OneTree

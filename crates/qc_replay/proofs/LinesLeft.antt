@@ -5,12 +5,8 @@ use Rattle.std.proofs.lemmas.List.FromFn.{length-range_with_len}
 use Rattle.qc_num.specs.declared.bound.Bound.{Bound}
 use Rattle.qc_num.specs.Bounds.{is_bound}
 use Rattle.qc_num.proofs.ReadingLemmas.{same_ok}
-use Rattle.qc_model.specs.declared.decision.Decision.{Decision}
+use Rattle.qc_close.specs.Model.{Decision, InstanceView, crane_numbers, most_branchings, most_cranes, seen}
 use Rattle.qc_model.specs.declared.decision.Decision.TheVariants as decide
-use Rattle.qc_model.specs.Instance.{InstanceView}
-use Rattle.qc_model.specs.Work.{crane_numbers}
-use Rattle.qc_model.specs.Numbers.{most_branchings, most_cranes}
-use Rattle.qc_model.specs.Seen.{seen}
 use Rattle.qc_model.proofs.SeenLemmas.{seen-crane_count}
 use Rattle.qc_tree.specs.declared.line.Line.{Line}
 use Rattle.qc_tree.specs.declared.line.Line.TheVariants as line

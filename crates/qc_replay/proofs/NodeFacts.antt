@@ -10,15 +10,8 @@ use Rattle.qc_num.specs.declared.bound.Bound.TheVariants.{Least, Never}
 use Rattle.qc_num.specs.Bounds.{lesser}
 use Rattle.qc_num.specs.Reading.{◌>>=◌, require}
 use Rattle.qc_num.proofs.ReadingLemmas.{passed}
-use Rattle.qc_model.specs.declared.decision.Decision.{Decision}
-use Rattle.qc_model.specs.declared.direction.Direction.{Direction}
-use Rattle.qc_model.specs.Numbers.{most_branchings, most_tasks}
-use Rattle.qc_model.specs.declared.pair.Pair.{Pair}
-use Rattle.qc_model.specs.Instance.{InstanceView, IsApart, pair_of}
+use Rattle.qc_close.specs.Model.{Decision, Direction, most_branchings, most_tasks, Pair, InstanceView, IsApart, pair_of, IsSettled, assigned, forced, Leaf, are_tasks, chain, chain_end, is_ring, leaf_value, packed, packed_end, ring, crane_numbers}
 use Rattle.qc_model.specs.declared.decision.Decision.TheVariants as decide
-use Rattle.qc_model.specs.Nodes.{IsSettled, assigned, forced}
-use Rattle.qc_model.specs.Leaves.{Leaf, are_tasks, chain, chain_end, is_ring, leaf_value, packed, packed_end, ring}
-use Rattle.qc_model.specs.Work.{crane_numbers}
 use Rattle.qc_tree.specs.declared.line.Line.{Line}
 use Rattle.qc_tree.specs.declared.line.Line.TheVariants.{Chain, Clash, Ring}
 use Rattle.qc_tree.specs.declared.line.Line.TheVariants as line

@@ -1,12 +1,7 @@
 -- Whether the order of two tasks may be branched on: as a test, and as a fact.
 use Rattle.std.proofs.Common.{◌≡◌, ◌↔◌, ℕ, ◌-◌, ◌<◌, Bool, true, false, not, ◌&&◌, ◌||◌, ◌==◌, nat_lt, inl, inr, List, length, Option, None, Some, IsTrue, refl, ap, ap₂, sym, subst, ◌∙◌, arith}
 use Rattle.std.proofs.lemmas.Bool.{and_from, and_parts, eq-eqb, eqb-true, false_from_ne_true, false≢true, lt-ltb, ltb-true, ne_eqb, not-true, or_cases, or_left, or_right, true≢false}
-use Rattle.qc_model.specs.declared.decision.Decision.{Decision}
-use Rattle.qc_model.specs.declared.turn.Turn.{Turn}
-use Rattle.qc_model.specs.declared.turn.Turn.TheVariants.{OneWay, Free}
-use Rattle.qc_model.specs.Instance.{InstanceView, Valid}
-use Rattle.qc_model.specs.Nodes.{Clash, Conflicts, assigned}
-use Rattle.qc_model.specs.Ticks.{task_distance}
+use Rattle.qc_close.specs.Model.{Decision, Turn, OneWay, Free, InstanceView, Valid, Clash, Conflicts, assigned, task_distance}
 use Rattle.qc_model.proofs.NodeLemmas.{before_found, one_way_apart}
 use Rattle.qc_tree.specs.Trees.{MayOrderBy}
 use Rattle.qc_tree.proofs.OrderLemmas.{may_conflict, may_order_low}

@@ -7,15 +7,8 @@ use Rattle.qc_num.specs.declared.bound.Bound.TheVariants.{Least, Never}
 use Rattle.qc_num.specs.Bounds.{IsAtMost, is_bound, lesser}
 use Rattle.qc_num.proofs.BoundLemmas.{lesser_assoc, lesser_never}
 use Rattle.qc_num.proofs.ReadingLemmas.{bind_ok, same_ok}
-use Rattle.qc_model.specs.declared.decision.Decision.{Decision}
-use Rattle.qc_model.specs.declared.direction.Direction.{Direction}
+use Rattle.qc_close.specs.Model.{Decision, Direction, Turn, OneWay, Free, InstanceView, Valid, most_branchings, ends, seen}
 use Rattle.qc_model.specs.declared.direction.Direction.TheVariants as way
-use Rattle.qc_model.specs.declared.turn.Turn.{Turn}
-use Rattle.qc_model.specs.declared.turn.Turn.TheVariants.{OneWay, Free}
-use Rattle.qc_model.specs.Instance.{InstanceView, Valid}
-use Rattle.qc_model.specs.Numbers.{most_branchings}
-use Rattle.qc_model.specs.Rules.{ends}
-use Rattle.qc_model.specs.Seen.{seen}
 use Rattle.qc_tree.specs.declared.line.Line.{Line}
 use Rattle.qc_tree.specs.declared.line.Line.TheVariants as line
 use Rattle.qc_tree.specs.LineIn.{Listed}

@@ -13,17 +13,8 @@ use Rattle.qc_num.specs.Bounds.{lesser}
 use Rattle.qc_num.specs.Reading.{◌>>=◌, require}
 use Rattle.qc_num.proofs.BoundLemmas.{lesser_never}
 use Rattle.qc_num.proofs.ReadingLemmas.{same_ok}
-use Rattle.qc_model.specs.declared.decision.Decision.{Decision}
+use Rattle.qc_close.specs.Model.{Decision, Direction, InstanceView, Valid, cranes_of, Leaf, are_tasks, chain, is_ring, leaf_value, packed, reach, ring, work, work_over, crane_numbers, early, Fits, IsSettled, assigned, forced, least, most_branchings, most_tasks, pack}
 use Rattle.qc_model.specs.declared.decision.Decision.TheVariants as decide
-use Rattle.qc_model.specs.declared.direction.Direction.{Direction}
-use Rattle.qc_model.specs.Instance.{InstanceView, Valid}
-use Rattle.qc_model.specs.Assignments.{cranes_of}
-use Rattle.qc_model.specs.Leaves.{Leaf, are_tasks, chain, is_ring, leaf_value, packed, reach, ring, work, work_over}
-use Rattle.qc_model.specs.Work.{crane_numbers}
-use Rattle.qc_model.specs.Early.{early}
-use Rattle.qc_model.specs.Nodes.{Fits, IsSettled, assigned, forced, least}
-use Rattle.qc_model.specs.Numbers.{most_branchings, most_tasks}
-use Rattle.qc_model.specs.Packs.{pack}
 use Rattle.qc_model.proofs.NodeLemmas.{conflict_inside}
 use Rattle.qc_close.proofs.PackBounds.{packed_listed, some_packed}
 use Rattle.qc_tree.specs.declared.line.Line.{Line}

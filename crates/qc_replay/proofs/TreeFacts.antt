@@ -67,10 +67,6 @@ pub each_ok : {A E : Type 0} (P Q : A → Type 0) (result : Result A E) → ((a 
 each_ok P Q (Ok a) all h = all a h
 each_ok P Q (Err e) all h = tt
 
-pub whatever_ok : {A E : Type 0} (P : Type 0) (result : Result A E) → P → IfOk result (λ _. P)
-whatever_ok P (Ok a) p = p
-whatever_ok P (Err e) p = tt
-
 -- what was read of the text of a tree is its value
 pub one_value : (inst : InstanceView) → Valid inst → (file : Option (List ℕ)) (read : Replayed)
     → IsReadThrough inst file read → (tree : Tree) → IsTree inst tree → file ≡ Some (tree_text inst tree)

@@ -10,18 +10,9 @@ use Rattle.qc_num.specs.declared.bound.Bound.TheVariants.{Least, Never}
 use Rattle.qc_num.specs.Bounds.{is_bound, lesser}
 use Rattle.qc_num.specs.Reading.{◌>>=◌, require}
 use Rattle.qc_num.proofs.BoundLemmas.{lesser_assoc, lesser_never}
-use Rattle.qc_model.specs.declared.decision.Decision.{Decision}
+use Rattle.qc_close.specs.Model.{Decision, Direction, Turn, OneWay, Free, InstanceView, Valid, chain, leaf_value, packed, reach, ring, work, Fits, most_branchings, mirror, seen}
 use Rattle.qc_model.specs.declared.decision.Decision.TheVariants as decide
-use Rattle.qc_model.specs.declared.direction.Direction.{Direction}
 use Rattle.qc_model.specs.declared.direction.Direction.TheVariants as way
-use Rattle.qc_model.specs.declared.turn.Turn.{Turn}
-use Rattle.qc_model.specs.declared.turn.Turn.TheVariants.{OneWay, Free}
-use Rattle.qc_model.specs.Instance.{InstanceView, Valid}
-use Rattle.qc_model.specs.Leaves.{chain, leaf_value, packed, reach, ring, work}
-use Rattle.qc_model.specs.Nodes.{Fits}
-use Rattle.qc_model.specs.Numbers.{most_branchings}
-use Rattle.qc_model.specs.OneWay.{mirror}
-use Rattle.qc_model.specs.Seen.{seen}
 use Rattle.qc_model.proofs.MirrorLemmas.{seen_valid}
 use Rattle.qc_model.proofs.NodeLemmas.{conflict_turned, unsettled_unordered}
 use Rattle.qc_tree.specs.declared.line.Line.{Line}

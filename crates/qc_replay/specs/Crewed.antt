@@ -2,8 +2,7 @@
 use Rattle.std.specs.Prelude.{List, [], ◌∷◌}
 use Rattle.qc_close.specs.Crews.{IsCrewOf}
 use Rattle.qc_dist.specs.Node.{IsOpen, Node}
-use Rattle.qc_model.specs.declared.decision.Decision.{Decision}
-use Rattle.qc_model.specs.Instance.{InstanceView}
+use Rattle.qc_close.specs.Model.{Decision, InstanceView}
 use Rattle.qc_replay.specs.Earliest.{HasEarly}
 use Rattle.qc_replay.specs.declared.crewed_node.CrewedNode.TheInside.{Inside}
 

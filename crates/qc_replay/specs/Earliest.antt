@@ -1,10 +1,6 @@
 -- inner: the least starts of a node, as they are kept while a part is read.
 use Rattle.std.specs.Prelude.{◌≡◌, ℕ, ◌<◌, ◌≤◌, ◌⊎◌, Bool, true, false, List, length, map, drop, slice_index, Option, None, Some}
-use Rattle.qc_model.specs.declared.decision.Decision.{Decision}
-use Rattle.qc_model.specs.declared.turn.Turn.{Turn}
-use Rattle.qc_model.specs.declared.turn.Turn.TheVariants.{OneWay, Free}
-use Rattle.qc_model.specs.Instance.{InstanceView}
-use Rattle.qc_model.specs.Nodes.{AreLeast, HasStarts, IsInReach, least}
+use Rattle.qc_close.specs.Model.{Decision, Turn, OneWay, Free, InstanceView, AreLeast, HasStarts, IsInReach, least}
 use Rattle.qc_replay.specs.declared.earliest.EarlyStarts.{EarlyStarts}
 
 -- the start of a task in a list of starts

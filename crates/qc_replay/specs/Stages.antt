@@ -1,14 +1,8 @@
 -- inner: how far a tree is read, as it is kept.
 use Rattle.std.specs.Prelude.{◌≡◌, ℕ, ◌+◌, ◌-◌, ◌*◌, length, Bool, true, false, List, [], ◌∷◌, ◌++◌, map, Option, None, Some, IfSome, Result, Ok}
 use Rattle.qc_num.specs.Reading.{◌>>=◌}
-use Rattle.qc_model.specs.declared.direction.Direction.{Direction}
+use Rattle.qc_close.specs.Model.{Direction, Turn, OneWay, Free, InstanceView, most_branchings, most_cranes, mirror, seen}
 use Rattle.qc_model.specs.declared.direction.Direction.TheVariants as way
-use Rattle.qc_model.specs.declared.turn.Turn.{Turn}
-use Rattle.qc_model.specs.declared.turn.Turn.TheVariants.{OneWay, Free}
-use Rattle.qc_model.specs.Instance.{InstanceView}
-use Rattle.qc_model.specs.Numbers.{most_branchings, most_cranes}
-use Rattle.qc_model.specs.OneWay.{mirror}
-use Rattle.qc_model.specs.Seen.{seen}
 use Rattle.qc_tree.specs.declared.fault.TreeKind.{TreeKind}
 use Rattle.qc_replay.specs.declared.node.Tally.{Tally}
 use Rattle.qc_replay.specs.declared.walk.Stage.{Stage}

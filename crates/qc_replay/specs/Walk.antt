@@ -5,19 +5,10 @@ use Rattle.qc_num.specs.declared.bound.Bound.{Bound}
 use Rattle.qc_num.specs.declared.bound.Bound.TheVariants.{Never}
 use Rattle.qc_num.specs.Bounds.{lesser, is_bound}
 use Rattle.qc_num.specs.Reading.{◌>>=◌, require, with_fault}
-use Rattle.qc_model.specs.declared.decision.Decision.{Decision}
+use Rattle.qc_close.specs.Model.{Decision, Direction, Turn, InstanceView, chain, packed, ring, reach, work, leaf_value, crane_numbers, assigned, forced, most_branchings, seen, task_distance}
 use Rattle.qc_model.specs.declared.decision.Decision.TheVariants as decide
-use Rattle.qc_model.specs.declared.direction.Direction.{Direction}
 use Rattle.qc_model.specs.declared.direction.Direction.TheVariants as way
-use Rattle.qc_model.specs.declared.turn.Turn.{Turn}
 use Rattle.qc_model.specs.declared.turn.Turn.TheVariants as turn
-use Rattle.qc_model.specs.Instance.{InstanceView}
-use Rattle.qc_model.specs.Leaves.{chain, packed, ring, reach, work, leaf_value}
-use Rattle.qc_model.specs.Work.{crane_numbers}
-use Rattle.qc_model.specs.Nodes.{assigned, forced}
-use Rattle.qc_model.specs.Numbers.{most_branchings}
-use Rattle.qc_model.specs.Seen.{seen}
-use Rattle.qc_model.specs.Ticks.{task_distance}
 use Rattle.qc_tree.specs.declared.line.Line.{Line}
 use Rattle.qc_tree.specs.declared.line.Line.TheVariants as line
 use Rattle.qc_tree.specs.LineIn.{line_in}

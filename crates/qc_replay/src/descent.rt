@@ -1,10 +1,7 @@
 //! The way through a part of a tree, node by node.
 ghost use Rattle.std.specs.Prelude.{◌≡◌, ◌<◌, ◌++◌, ◌∷◌, [], IfOk, None, drop, length, map, true};
 ghost use Rattle.qc_close.specs.Crews.{IsCrewOf};
-ghost use Rattle.qc_model.specs.declared.decision.Decision.TheVariants.{Assign, Order};
-ghost use Rattle.qc_model.specs.Instance.{Valid};
-ghost use Rattle.qc_model.specs.Work.{crane_numbers};
-ghost use Rattle.qc_model.specs.Nodes.{Conflicts, IsSettled, assigned};
+ghost use Rattle.qc_close.specs.Model.{Assign, Order, Valid, crane_numbers, Conflicts, IsSettled, assigned};
 ghost use Rattle.qc_dist.specs.Children.{behind};
 ghost use Rattle.qc_replay.specs.Crewed.{WereOpen};
 ghost use Rattle.qc_replay.specs.Earliest.{HasEarly};

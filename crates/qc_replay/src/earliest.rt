@@ -2,10 +2,7 @@
 ghost use Rattle.std.specs.Prelude.{◌≡◌, ◌↔◌, ◌+◌, ◌<◌, ◌≤◌, ◌∷◌, [], List, All, IfOk, IfSome, IsTrue, length, map, min, option_map};
 ghost use Rattle.std.specs.Option.{option_map_or};
 ghost use Rattle.qc_dist.specs.Node.{IsOpen};
-ghost use Rattle.qc_model.specs.declared.decision.Decision.{Decision};
-ghost use Rattle.qc_model.specs.Early.{early, least_starts};
-ghost use Rattle.qc_model.specs.Nodes.{HasStarts, head, least};
-ghost use Rattle.qc_model.specs.Numbers.{most_distance, most_ready, most_start};
+ghost use Rattle.qc_close.specs.Model.{Decision, early, least_starts, HasStarts, head, least, most_distance, most_ready, most_start};
 ghost use Rattle.qc_replay.specs.Crewed.{WereOpen};
 ghost use Rattle.qc_replay.specs.Earliest.{AreEarly, HasEarly, IsEnded, IsFirstStart, start_in};
 ghost use Rattle.qc_starts.specs.Seen.{IsReached};
@@ -119,7 +116,7 @@ impl EarlyStarts {
             (least_starts node.now.inst node.now.decisions) }
         ensures bound { IfSome result (λ tick. tick ≤ most_start) }
     {
-        let _inst = node.instance();
+        let _inst = node.instance(); // for what it ensures
         if self.are_none() {
             None
         } else {

@@ -1,8 +1,7 @@
 //! What leaves show at a node.
 ghost use Rattle.std.specs.Prelude.{◌≡◌, ◌+◌, ◌*◌, ◌<◌, ◌≤◌, ◌++◌, ◌^◌, ℕ, List, None, All, IfSome, MatchOption, length, option_map, take};
 ghost use Rattle.qc_close.specs.Crews.{IsCrewOf};
-ghost use Rattle.qc_model.specs.Numbers.{most_distance, most_tasks, most_work};
-ghost use Rattle.qc_model.specs.Leaves.{chain_end, chain_ticks, is_ring, packed_end, work_over};
+ghost use Rattle.qc_close.specs.Model.{most_distance, most_tasks, most_work, chain_end, chain_ticks, is_ring, packed_end, work_over};
 ghost use Rattle.qc_replay.specs.Earliest.{HasEarly};
 ghost use Rattle.qc_replay.specs.Part.{IsNumber};
 ghost use Rattle.qc_replay.specs.Walk.{from_file};
@@ -77,8 +76,8 @@ pub(crate) fn is_ring(node: &Decisions, numbers: &[u16]) -> bool
     }
 }
 
-/// The tasks of these numbers, from the front of the array on.
-fn tasks_of(numbers: &[u16]) -> [u16; MOST_TASKS as usize]
+/// The tasks of these numbers, counted from 0, from the front of the array on.
+fn counted_from_0(numbers: &[u16]) -> [u16; MOST_TASKS as usize]
     requires few { length numbers.now ≤ most_tasks }
     ensures { take (length numbers.now) result ≡ from_file numbers.now }
 {
@@ -103,7 +102,7 @@ pub(crate) fn packed_end(
     requires few { length numbers.now ≤ most_tasks }
     ensures { result ≡ packed_end node.now.inst node.now.decisions (from_file numbers.now) }
 {
-    let tasks = tasks_of(numbers);
+    let tasks = counted_from_0(numbers);
     let listed = &tasks[..numbers.len()];
     let ticks = crew.pack(listed)?;
     let begin = least_begin(node, begun, listed)?;

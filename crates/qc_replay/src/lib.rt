@@ -3,7 +3,7 @@
 //!
 //! `replay` gives the value of the tree that a file holds, below which no schedule of the
 //! instance's turn ends, or the fault of its first faulty line. The text of a tree is never called
-//! faulty, and a file is the text of one tree at most.
+//! faulty, and shows that tree's value.
 #![tactic(auto)]
 
 mod crewed_node;

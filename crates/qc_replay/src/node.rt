@@ -2,9 +2,7 @@
 ghost use Rattle.std.specs.Prelude.{◌≡◌, ◌<◌, ◌≤◌, ◌^◌, ◌&&◌, ℕ, List, length, true};
 ghost use Rattle.std.specs.List.{list_all};
 ghost use Rattle.qc_close.specs.Crews.{IsCrewOf};
-ghost use Rattle.qc_model.specs.Numbers.{most_tasks};
-ghost use Rattle.qc_model.specs.Instance.{Valid};
-ghost use Rattle.qc_model.specs.Leaves.{is_out_of_reach};
+ghost use Rattle.qc_close.specs.Model.{most_tasks, Valid, is_out_of_reach};
 ghost use Rattle.qc_replay.specs.Crewed.{WereOpen};
 ghost use Rattle.qc_replay.specs.Earliest.{HasEarly};
 ghost use Rattle.qc_replay.specs.Part.{IsJudged, IsNoBranching, Shows, with_branching};

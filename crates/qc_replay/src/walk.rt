@@ -94,11 +94,11 @@ impl Walk {
     {
         let kept = copy(alloc, inst)?;
         let Ok(part) = Descent::new(alloc, inst) else {
-            drop(kept);
+            drop(kept); // by name: proved faster
             return Err(OutOfMemory);
         };
         let Ok(second) = second_root(alloc, inst) else {
-            drop(part);
+            drop(part); // by name: proved faster
             drop(kept);
             return Err(OutOfMemory);
         };

@@ -5,13 +5,7 @@ use Rattle.qc_num.specs.declared.bound.Bound.{Bound}
 use Rattle.qc_num.specs.declared.bound.Bound.TheVariants.{Least, Never}
 use Rattle.qc_num.specs.Bounds.{IsAtMost}
 use Rattle.qc_bounds.proofs.ClosedLemmas.{one_end}
-use Rattle.qc_model.specs.declared.decision.Decision.{Decision}
-use Rattle.qc_model.specs.declared.direction.Direction.{Direction}
-use Rattle.qc_model.specs.declared.schedule.Slot.{Slot}
-use Rattle.qc_model.specs.Numbers.{most_start}
-use Rattle.qc_model.specs.Instance.{InstanceView}
-use Rattle.qc_model.specs.Nodes.{Fits, IsComplete, IsInReach, IsNodeEnd, schedule_with}
-use Rattle.qc_model.specs.Rules.{last_end}
+use Rattle.qc_close.specs.Model.{Decision, Direction, Slot, most_start, InstanceView, Fits, IsComplete, IsInReach, IsNodeEnd, schedule_with, last_end}
 use Rattle.qc_search.specs.declared.progress.Progress.{Progress}
 use Rattle.qc_search.specs.Progress.{IsPassed, Improves, IsTaken}
 

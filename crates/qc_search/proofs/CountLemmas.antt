@@ -5,15 +5,8 @@ use Rattle.std.proofs.lemmas.List.FromFn.{length-range_with_len}
 use Rattle.std.proofs.lemmas.List.Sums.{sum_by-append, sum_by-cons}
 use Rattle.qc_model.proofs.NodeLemmas.{conflict_turned, unsettled_unordered}
 use Rattle.qc_dist.proofs.Room.{assigned_less, none_left, order_less, unassigned, unordered_left}
-use Rattle.qc_model.specs.declared.decision.Decision.{Decision}
+use Rattle.qc_close.specs.Model.{Decision, Down, Turn, OneWay, Free, InstanceView, Valid, order_pairs, order_pairs_by, crane_numbers, mirror}
 use Rattle.qc_model.specs.declared.decision.Decision.TheVariants as decide
-use Rattle.qc_model.specs.declared.direction.Direction.TheVariants.{Down}
-use Rattle.qc_model.specs.declared.turn.Turn.{Turn}
-use Rattle.qc_model.specs.declared.turn.Turn.TheVariants.{OneWay, Free}
-use Rattle.qc_model.specs.Instance.{InstanceView, Valid}
-use Rattle.qc_model.specs.Nodes.{order_pairs, order_pairs_by}
-use Rattle.qc_model.specs.Work.{crane_numbers}
-use Rattle.qc_model.specs.OneWay.{mirror}
 use Rattle.qc_model.proofs.MirrorLemmas.{seen_valid}
 use Rattle.qc_model.proofs.SeenLemmas.{seen-crane_count, seen-task_count}
 use Rattle.qc_tree.proofs.OrderLemmas.{may_conflict}

@@ -3,17 +3,7 @@ use Rattle.std.proofs.Common.{◌≡◌, ℕ, zero, suc, ◌+◌, ◌<◌, ◌�
 use Rattle.std.proofs.lemmas.Option.{same_Some}
 use Rattle.std.proofs.lemmas.Bool.{and_parts, cond-true, cond_both, eq-eqb, eqb-true, false≢true, le-leb, leb-true, or_cases, or_left, or_right}
 use Rattle.std.specs.List.{range_with_len}
-use Rattle.qc_model.specs.declared.decision.Decision.{Decision}
-use Rattle.qc_model.specs.declared.decision.Decision.TheVariants.{Assign, Order}
-use Rattle.qc_model.specs.declared.pair.Pair.{Pair}
-use Rattle.qc_model.specs.declared.schedule.Slot.{Slot}
-use Rattle.qc_model.specs.declared.turn.Turn.{Turn}
-use Rattle.qc_model.specs.declared.turn.Turn.TheVariants.{OneWay, Free}
-use Rattle.qc_model.specs.Frames.{GoesBy}
-use Rattle.qc_model.specs.Instance.{InstanceView, Valid, pair_of, ticks_of}
-use Rattle.qc_model.specs.Work.{task_numbers}
-use Rattle.qc_model.specs.Nodes.{Agrees, AreLeast, Conflicts, Fits, IsComplete, IsInReach, Meets, assigned, crane_ticks, forced, head_by, is_before, is_ordered, is_sooner, pair_ticks, schedule_with, sooner_ticks}
-use Rattle.qc_model.specs.Rules.{IsClear, crane_of, end_of, start_of, starts}
+use Rattle.qc_close.specs.Model.{Decision, Assign, Order, Pair, Slot, Turn, OneWay, Free, GoesBy, InstanceView, Valid, pair_of, ticks_of, task_numbers, Agrees, AreLeast, Conflicts, Fits, IsComplete, IsInReach, Meets, assigned, crane_ticks, forced, head_by, is_before, is_ordered, is_sooner, pair_ticks, schedule_with, sooner_ticks, IsClear, crane_of, end_of, start_of, starts}
 use Rattle.qc_model.proofs.CompleteNodes.{agrees_with, goes_least, greater_first, greater_second, starts_with}
 use Rattle.qc_model.proofs.NodeLemmas.{IsStep, assigned_is, greater_keeps, if_some, meets_by, ordered_is}
 use Rattle.qc_dist.proofs.Assigned.{assigned_other, ordered_here}
@@ -130,52 +120,42 @@ module _ (inst : InstanceView) (sched : List Slot) where
 
 -- ---- what is ordered conflicts, still
 
-conflict_ordered : (inst : InstanceView) (ds : List Decision) (h k i j : ℕ) → Conflicts inst ds i j
-    → Conflicts inst (Order h k ∷ ds) i j
-conflict_ordered inst ds h k i j (inl at) = inl at
-conflict_ordered inst ds h k i j (inr clash) = inr (record {
+-- whatever is decided that leaves them their cranes
+pub conflict_moves : (inst : InstanceView) (ds es : List Decision)
+    → ((t v : ℕ) → assigned ds t ≡ Some v → assigned es t ≡ Some v) → (i j : ℕ) → Conflicts inst ds i j → Conflicts inst es i j
+conflict_moves inst ds es keep i j (inl at) = inl at
+conflict_moves inst ds es keep i j (inr clash) = inr (record {
   free = clash.free;
   first = clash.first;
   second = clash.second;
   differ = clash.differ;
   first_crane = clash.first_crane;
   second_crane = clash.second_crane;
-  of_first = clash.of_first;
-  of_second = clash.of_second;
+  of_first = keep i clash.first_crane clash.of_first;
+  of_second = keep j clash.second_crane clash.of_second;
   near = clash.near;
 })
 
 none_some : (o : Option ℕ) (k : ℕ) → o ≡ None → o ≡ Some k → ⊥
 none_some o k e f = cc
 
-conflict_assigned : (inst : InstanceView) (ds : List Decision) (h k i j : ℕ) → assigned ds h ≡ None → Conflicts inst ds i j
-    → Conflicts inst (Assign h k ∷ ds) i j
-conflict_assigned inst ds h k i j none (inl at) = inl at
-conflict_assigned inst ds h k i j none (inr clash) = inr (record {
-  free = clash.free;
-  first = clash.first;
-  second = clash.second;
-  differ = clash.differ;
-  first_crane = clash.first_crane;
-  second_crane = clash.second_crane;
-  of_first = assigned_other ds h k i (other i clash.first_crane clash.of_first) ∙ clash.of_first;
-  of_second = assigned_other ds h k j (other j clash.second_crane clash.of_second) ∙ clash.of_second;
-  near = clash.near;
-})
+still_assigned : (ds : List Decision) (h k : ℕ) → assigned ds h ≡ None → (t v : ℕ) → assigned ds t ≡ Some v
+    → assigned (Assign h k ∷ ds) t ≡ Some v
+still_assigned ds h k none t v is = assigned_other ds h k t other ∙ is
   where
-    other : (t v : ℕ) → assigned ds t ≡ Some v → ¬ (h ≡ t)
-    other t v is e = none_some (assigned ds t) v (subst (λ (n : ℕ). assigned ds n ≡ None) e none) is
+    other : ¬ (h ≡ t)
+    other e = none_some (assigned ds t) v (subst (λ (n : ℕ). assigned ds n ≡ None) e none) is
 
 pub ordered_conflicts : (inst : InstanceView) (ds : List Decision) → Fits inst ds → (i j : ℕ) → is_ordered ds i j ≡ true
     → Conflicts inst ds i j
 ordered_conflicts inst [] fits i j t = absurd (false≢true t)
 ordered_conflicts inst (Assign h k ∷ ds) fits i j t =
-    conflict_assigned inst ds h k i j fits.2 (ordered_conflicts inst ds fits.3 i j t)
+    conflict_moves inst ds (Assign h k ∷ ds) (still_assigned ds h k fits.2) i j (ordered_conflicts inst ds fits.3 i j t)
 ordered_conflicts inst (Order h k ∷ ds) fits i j t = elim (or_cases (eqb h i && eqb k j) (is_ordered ds i j) t) [
   | inl e ↦
       let p = and_parts (eqb h i) (eqb k j) e in
-      conflict_ordered inst ds h k i j (subst₂ (Conflicts inst ds) (eqb-true h i p.0) (eqb-true k j p.1) fits.0)
-  | inr e ↦ conflict_ordered inst ds h k i j (ordered_conflicts inst ds fits.3 i j e)
+      conflict_moves inst ds (Order h k ∷ ds) (λ t v is. is) i j (subst₂ (Conflicts inst ds) (eqb-true h i p.0) (eqb-true k j p.1) fits.0)
+  | inr e ↦ conflict_moves inst ds (Order h k ∷ ds) (λ t v is. is) i j (ordered_conflicts inst ds fits.3 i j e)
 ]
 
 -- what cranes ask for where two tasks are ordered, they ask for where they are ordered too

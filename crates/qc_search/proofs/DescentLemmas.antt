@@ -6,13 +6,7 @@ use Rattle.qc_num.specs.declared.bound.Bound.{Bound}
 use Rattle.qc_dist.specs.Children.{IsNextChild, behind, later}
 use Rattle.qc_dist.specs.Node.{IsOpen}
 use Rattle.qc_dist.proofs.ChildLemmas.{cranes_count, cranes_from}
-use Rattle.qc_model.specs.declared.decision.Decision.{Decision}
-use Rattle.qc_model.specs.declared.decision.Decision.TheVariants.{Assign, Order}
-use Rattle.qc_model.specs.Closing.{IsClosable, no_starts}
-use Rattle.qc_model.specs.Instance.{InstanceView, Valid}
-use Rattle.qc_model.specs.Work.{crane_numbers}
-use Rattle.qc_model.specs.Nodes.{HasStarts, IsInReach}
-use Rattle.qc_model.specs.Numbers.{most_cranes}
+use Rattle.qc_close.specs.Model.{Decision, Assign, Order, IsClosable, no_starts, InstanceView, Valid, crane_numbers, HasStarts, IsInReach, most_cranes}
 use Rattle.qc_starts.specs.Seen.{HasNone}
 use Rattle.qc_model.proofs.NodeLemmas.{conflict_inside}
 use Rattle.qc_tree.specs.Trees.{children}

@@ -7,9 +7,7 @@ use Rattle.std.proofs.lemmas.Simd.{map-map}
 use Rattle.qc_num.specs.declared.bound.Bound.{Bound}
 use Rattle.qc_num.specs.declared.bound.Bound.TheVariants.{Least}
 use Rattle.qc_num.specs.Bounds.{IsAtMost, least_bound, lesser}
-use Rattle.qc_model.specs.declared.direction.Direction.{Direction}
-use Rattle.qc_model.specs.Instance.{InstanceView}
-use Rattle.qc_model.specs.Seen.{seen}
+use Rattle.qc_close.specs.Model.{Direction, InstanceView, seen}
 use Rattle.qc_tree.specs.Trees.{Node, branches, branchings, part_value}
 use Rattle.qc_search.specs.Earned.{IsEarnedBehind, IsKnownEnd, IsSolvedBy, TreeNode, branchings_in, node_at, part_nodes}
 use Rattle.qc_search.specs.Progress.{AreEarned, value_at, value_in}

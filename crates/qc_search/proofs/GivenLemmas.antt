@@ -8,22 +8,7 @@ use Rattle.qc_num.specs.declared.bound.Bound.TheVariants.{Least, Never}
 use Rattle.qc_num.specs.Bounds.{IsAtMost}
 use Rattle.qc_num.specs.Paths.{HasRoom}
 use Rattle.qc_num.proofs.BoundLemmas.{same_least}
-use Rattle.qc_model.specs.declared.decision.Decision.{Decision}
-use Rattle.qc_model.specs.declared.decision.Decision.TheVariants.{Assign, Order}
-use Rattle.qc_model.specs.declared.direction.Direction.{Direction}
-use Rattle.qc_model.specs.declared.direction.Direction.TheVariants.{Up, Down}
-use Rattle.qc_model.specs.declared.pair.Pair.{Pair}
-use Rattle.qc_model.specs.declared.schedule.Slot.{Slot}
-use Rattle.qc_model.specs.declared.turn.Turn.{Turn}
-use Rattle.qc_model.specs.declared.turn.Turn.TheVariants.{OneWay, Free}
-use Rattle.qc_model.specs.Frames.{GoesBy}
-use Rattle.qc_model.specs.Instance.{InstanceView, Valid, ticks_of}
-use Rattle.qc_model.specs.Judge.{IsDirection, IsJudgeable}
-use Rattle.qc_model.specs.Nodes.{Agrees, AreLeast, IsSettled, Meets, assigned, forced, schedule_with}
-use Rattle.qc_model.specs.Numbers.{most_branchings, most_start, most_tasks}
-use Rattle.qc_model.specs.OneWay.{GoesUp}
-use Rattle.qc_model.specs.Rules.{Feasible, crane_of, end_of, ends, start_of, starts}
-use Rattle.qc_model.specs.Seen.{seen, seen_number, seen_schedule}
+use Rattle.qc_close.specs.Model.{Decision, Assign, Order, Direction, Up, Down, Pair, Slot, Turn, OneWay, Free, GoesBy, InstanceView, Valid, ticks_of, IsDirection, IsJudgeable, Agrees, AreLeast, IsSettled, Meets, assigned, forced, schedule_with, most_branchings, most_start, most_tasks, GoesUp, Feasible, crane_of, end_of, ends, start_of, starts, seen, seen_number, seen_schedule}
 use Rattle.qc_model.proofs.Bounded.{last_end_le}
 use Rattle.qc_model.proofs.CompleteNodes.{agrees_with, ends_with, feasible_least, forced_ticks, goes_least}
 use Rattle.qc_model.proofs.MirrorLemmas.{seen_valid}

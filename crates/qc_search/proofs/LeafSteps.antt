@@ -17,15 +17,7 @@ use Rattle.qc_bounds.specs.Closed.{IsClosedBy, IsSpentBy}
 use Rattle.qc_bounds.proofs.ClosedLemmas.{never_out_of_reach, one_end}
 use Rattle.qc_dist.specs.Children.{behind, later}
 use Rattle.qc_dist.specs.Node.{Node}
-use Rattle.qc_model.specs.declared.decision.Decision.{Decision}
-use Rattle.qc_model.specs.declared.decision.Decision.TheVariants.{Assign, Order}
-use Rattle.qc_model.specs.declared.direction.Direction.{Direction}
-use Rattle.qc_model.specs.Closing.{IsClosable, IsWorkBound, complete, ends_late, no_starts, out_of_reach, work_late}
-use Rattle.qc_model.specs.Instance.{InstanceView, Valid}
-use Rattle.qc_model.specs.Leaves.{Leaf, chain, is_out_of_reach, leaf_value, reach}
-use Rattle.qc_model.specs.Nodes.{HasStarts, IsComplete, IsInReach, IsNodeEnd, reaches}
-use Rattle.qc_model.specs.Numbers.{most_tasks}
-use Rattle.qc_model.specs.Rules.{last_end}
+use Rattle.qc_close.specs.Model.{Decision, Assign, Order, Direction, IsClosable, IsWorkBound, complete, ends_late, no_starts, out_of_reach, work_late, InstanceView, Valid, Leaf, chain, is_out_of_reach, leaf_value, reach, HasStarts, IsComplete, IsInReach, IsNodeEnd, reaches, most_tasks, last_end}
 use Rattle.qc_starts.specs.Seen.{IsReached, IsWhy}
 use Rattle.qc_tree.specs.Trees.{leaf_text, sign_text, sign_value}
 use Rattle.qc_tree.specs.Trees as signs

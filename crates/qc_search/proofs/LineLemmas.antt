@@ -7,15 +7,7 @@ use Rattle.std.specs.List.{list_all, refill}
 use Rattle.qc_num.specs.declared.bound.Bound.TheVariants.{Least, Never}
 use Rattle.qc_bounds.specs.declared.leaves.LeafKind.{LeafKind}
 use Rattle.qc_bounds.specs.declared.leaves.LeafKind.TheVariants as kind
-use Rattle.qc_model.specs.declared.decision.Decision.{Decision}
-use Rattle.qc_model.specs.Numbers.{most_tasks}
-use Rattle.qc_model.specs.Instance.{InstanceView}
-use Rattle.qc_model.specs.Leaves.{are_tasks, is_ring, leaf_value, work, work_over}
-use Rattle.qc_model.specs.Work.{ticks_over}
-use Rattle.qc_model.specs.Assignments.{cranes_of}
-use Rattle.qc_model.specs.Early.{early}
-use Rattle.qc_model.specs.Nodes.{least}
-use Rattle.qc_model.specs.Packs.{all_clash, all_differ, is_doable, is_packed, span}
+use Rattle.qc_close.specs.Model.{Decision, most_tasks, InstanceView, are_tasks, is_ring, leaf_value, work, work_over, ticks_over, cranes_of, early, least, all_clash, all_differ, is_doable, is_packed, span}
 use Rattle.qc_close.proofs.SpanLemmas.{packed_few, packed_range}
 use Rattle.qc_tree.specs.Lines.{AreTasks, IsLine, IsTask}
 use Rattle.qc_tree.specs.Trees.{in_file, leaf_text, whole_line}

@@ -11,11 +11,7 @@ use Rattle.qc_io.specs.Writes.{Writes}
 use Rattle.qc_io.proofs.WritesLemmas.{writes_cut, writes_then}
 use Rattle.qc_num.specs.Paths.{HasRoom}
 use Rattle.smallvec.specs.SmallVec.{SmallVec}
-use Rattle.qc_model.specs.declared.decision.Decision.{Decision}
-use Rattle.qc_model.specs.declared.direction.Direction.{Direction}
-use Rattle.qc_model.specs.declared.schedule.Slot.{Slot}
-use Rattle.qc_model.specs.Instance.{InstanceView}
-use Rattle.qc_model.specs.Numbers.{most_tasks}
+use Rattle.qc_close.specs.Model.{Decision, Direction, Slot, InstanceView, most_tasks}
 use Rattle.qc_tree.specs.Trees.{Node, Sign, branchings, children, part_text, sign_text}
 use Rattle.qc_tree.proofs.NodeLemmas.{all_given_up, given_up, leads_then, none_branched}
 use Rattle.qc_search.specs.declared.progress.Progress.{Progress}

@@ -1,18 +1,9 @@
 -- Decisions as a schedule has them: what they are open for, and what they settle.
-use Rattle.std.proofs.Common.{◌≡◌, ℕ, ◌-◌, ◌<◌, inl, inr, Bool, true, false, List, [], ◌∷◌, length, get_or, Contains, ◌⊎◌, Option, None, Some, IfSome, IsSome, refl, ap, subst, ◌∙◌, arith, is_some, nat_le, sym, ◌≤◌, if◌then◌else◌}
+use Rattle.std.proofs.Common.{◌≡◌, ℕ, ◌-◌, ◌<◌, inl, inr, Bool, true, false, List, [], ◌∷◌, length, get_or, Contains, ◌⊎◌, Option, None, Some, IfSome, IsSome, refl, ap, subst, arith, is_some, nat_le, sym, ◌≤◌, if◌then◌else◌}
 use Rattle.std.proofs.lemmas.Bool.{and_from, cond_both, false_from_ne_true, false≢true, le-leb, leb-true}
 use Rattle.std.proofs.lemmas.List.{drop_all}
 use Rattle.qc_dist.specs.Node.{IsOpen}
-use Rattle.qc_model.specs.declared.decision.Decision.{Decision}
-use Rattle.qc_model.specs.declared.decision.Decision.TheVariants.{Order}
-use Rattle.qc_model.specs.declared.pair.Pair.{Pair}
-use Rattle.qc_model.specs.declared.schedule.Slot.{Slot}
-use Rattle.qc_model.specs.declared.turn.Turn.{Turn}
-use Rattle.qc_model.specs.declared.turn.Turn.TheVariants.{OneWay, Free}
-use Rattle.qc_model.specs.Frames.{GoesBy}
-use Rattle.qc_model.specs.Instance.{InstanceView, Valid, pair_of}
-use Rattle.qc_model.specs.Nodes.{Agrees, AreLeast, Conflicts, Fits, HasStarts, IsComplete, IsInReach, IsSettled, assigned, reaches}
-use Rattle.qc_model.specs.Rules.{IsClear, crane_of, end_of, start_of, starts}
+use Rattle.qc_close.specs.Model.{Decision, Order, Pair, Slot, Turn, OneWay, Free, GoesBy, InstanceView, Valid, pair_of, Agrees, AreLeast, Conflicts, Fits, HasStarts, IsComplete, IsInReach, IsSettled, assigned, reaches, IsClear, crane_of, end_of, start_of, starts}
 use Rattle.qc_model.proofs.CompleteNodes.{complete_where}
 use Rattle.qc_model.proofs.NodeLemmas.{T_true, assigned_is, conflict_turned, meets_by}
 use Rattle.qc_model.proofs.TurnLemmas.{by_feasible}
@@ -122,22 +113,6 @@ module _ (inst : InstanceView) (sched : List Slot) (p : Pair) (ds : List Decisio
         | inl h ↦ inr h
         | inr h ↦ inl h
       ]
-
--- tasks that conflict do so whatever is decided that leaves their cranes
-pub conflict_moves : (inst : InstanceView) (ds es : List Decision) → ((j : ℕ) → assigned es j ≡ assigned ds j) → (i j : ℕ)
-    → Conflicts inst ds i j → Conflicts inst es i j
-conflict_moves inst ds es same i j (inl at) = inl at
-conflict_moves inst ds es same i j (inr clash) = inr (record {
-  free = clash.free;
-  first = clash.first;
-  second = clash.second;
-  differ = clash.differ;
-  first_crane = clash.first_crane;
-  second_crane = clash.second_crane;
-  of_first = same i ∙ clash.of_first;
-  of_second = same j ∙ clash.of_second;
-  near = clash.near;
-})
 
 module _ (inst : InstanceView) (v : Valid inst) (ds : List Decision) (sched : List Slot) (given : AreAssigned inst ds)
     (agrees : Agrees inst ds sched) where

@@ -2,16 +2,8 @@
 use Rattle.std.proofs.Common.{◌≡◌, ◌≤◌, arith, List, Option, None, Some, inl, inr, subst, ◌∙◌, IfSome}
 use Rattle.std.proofs.lemmas.List.{length-map}
 use Rattle.qc_gantt.specs.Plan.{HasShortEnds}
-use Rattle.qc_model.specs.declared.direction.Direction.{Direction}
-use Rattle.qc_model.specs.declared.direction.Direction.TheVariants.{Up, Down}
-use Rattle.qc_model.specs.declared.schedule.Slot.{Slot}
-use Rattle.qc_model.specs.declared.turn.Turn.{Turn}
+use Rattle.qc_close.specs.Model.{Direction, Up, Down, Slot, Turn, InstanceView, Goes, IsJudgeable, most_start, GoesOneWay, IsAllowed, IsAllowedBy, ends, starts}
 use Rattle.qc_model.specs.declared.turn.Turn.TheVariants as turn
-use Rattle.qc_model.specs.Instance.{InstanceView}
-use Rattle.qc_model.specs.Judge.{Goes, IsJudgeable}
-use Rattle.qc_model.specs.Numbers.{most_start}
-use Rattle.qc_model.specs.OneWay.{GoesOneWay, IsAllowed, IsAllowedBy}
-use Rattle.qc_model.specs.Rules.{ends, starts}
 use Rattle.qc_model.proofs.NodeLemmas.{ends_by, start_at}
 use Rattle.qc_starts.specs.Tight.{IsAllowedSo, IsTight}
 

@@ -2,16 +2,7 @@
 use Rattle.std.proofs.Common.{◌≡◌, ℕ, zero, suc, ◌≤◌, arith, List, [], min, Some, inl, inr, subst, sym}
 use Rattle.qc_laws.proofs.NodeLemmas.{closed_node_le}
 use Rattle.qc_dist.specs.Node.{Node}
-use Rattle.qc_model.specs.declared.decision.Decision.{Decision}
-use Rattle.qc_model.specs.declared.direction.Direction.TheVariants.{Down}
-use Rattle.qc_model.specs.declared.schedule.Slot.{Slot}
-use Rattle.qc_model.specs.declared.turn.Turn.{Turn}
-use Rattle.qc_model.specs.declared.turn.Turn.TheVariants.{OneWay, Free}
-use Rattle.qc_model.specs.Closing.{IsWorkBound}
-use Rattle.qc_model.specs.Frames.{GoesBy}
-use Rattle.qc_model.specs.Instance.{InstanceView, Valid}
-use Rattle.qc_model.specs.OneWay.{IsAllowedBy, mirror, mirror_schedule}
-use Rattle.qc_model.specs.Rules.{ends}
+use Rattle.qc_close.specs.Model.{Decision, Down, Slot, Turn, OneWay, Free, IsWorkBound, GoesBy, InstanceView, Valid, IsAllowedBy, mirror, mirror_schedule, ends}
 use Rattle.qc_model.proofs.MirrorLemmas.{seen_valid}
 use Rattle.qc_model.proofs.SeenLemmas.{seen-ends}
 use Rattle.qc_num.specs.declared.bound.Bound.TheVariants.{Least}

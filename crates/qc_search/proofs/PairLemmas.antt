@@ -5,16 +5,7 @@ use Rattle.std.proofs.lemmas.List.Elements.{All-append, All-contains, All-filter
 use Rattle.std.proofs.lemmas.List.Folds.{list_any_at}
 use Rattle.std.specs.List.{AllByRecursion, flat_map, list_any, range_with_len}
 use Rattle.qc_num.proofs.Lists.{Contains-map}
-use Rattle.qc_model.specs.declared.decision.Decision.{Decision}
-use Rattle.qc_model.specs.declared.pair.Pair.{Pair}
-use Rattle.qc_model.specs.declared.schedule.Slot.{Slot}
-use Rattle.qc_model.specs.declared.turn.Turn.{Turn}
-use Rattle.qc_model.specs.declared.turn.Turn.TheVariants.{OneWay, Free}
-use Rattle.qc_model.specs.Frames.{GoesBy}
-use Rattle.qc_model.specs.Instance.{InstanceView, IsApart, Valid, pair_of}
-use Rattle.qc_model.specs.Nodes.{Conflicts, assigned}
-use Rattle.qc_model.specs.Rules.{Feasible, IsClear, crane_of, slot_distance}
-use Rattle.qc_model.specs.Ticks.{task_distance}
+use Rattle.qc_close.specs.Model.{Decision, Pair, Slot, Turn, OneWay, Free, GoesBy, InstanceView, IsApart, Valid, pair_of, Conflicts, assigned, Feasible, IsClear, crane_of, slot_distance, task_distance}
 use Rattle.qc_model.proofs.NodeLemmas.{before_found, conflict_differs, conflict_inside, conflict_turned, one_way_apart}
 use Rattle.qc_model.proofs.TurnLemmas.{by_feasible}
 use Rattle.qc_starts.specs.Tight.{conflicts_in, ordered_pairs, task_pairs}

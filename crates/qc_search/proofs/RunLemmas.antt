@@ -6,11 +6,7 @@ use Rattle.qc_io.specs.Outside.{View}
 use Rattle.qc_num.specs.declared.bound.Bound.{Bound}
 use Rattle.qc_num.specs.declared.bound.Bound.TheVariants.{Least, Never}
 use Rattle.qc_num.specs.Bounds.{IsAtMost}
-use Rattle.qc_model.specs.declared.direction.Direction.{Direction}
-use Rattle.qc_model.specs.declared.schedule.Slot.{Slot}
-use Rattle.qc_model.specs.Instance.{InstanceView, Valid}
-use Rattle.qc_model.specs.Rules.{ends}
-use Rattle.qc_model.specs.Seen.{seen_schedule}
+use Rattle.qc_close.specs.Model.{Direction, Slot, InstanceView, Valid, ends, seen_schedule}
 use Rattle.qc_tree.specs.Trees.{NoneEarlier, tree_branchings, tree_value}
 use Rattle.qc_tree.proofs.TreeBound.{tree_bound}
 use Rattle.qc_search.specs.declared.progress.Progress.{Progress}
@@ -37,8 +33,8 @@ not_ok P (Ok x) e = absurd (false≢true e)
 not_ok P (Err why) e = tt
 
 -- what is told of a tree that was written, by a search that began with this end
-abbrev pub told_with : ℕ → Bound → Progress → DoneView
-told_with cranes first now = record {
+abbrev pub done_with : ℕ → Bound → Progress → DoneView
+done_with cranes first now = record {
   kind = outcome now.bound now.incumbent_end;
   bound = now.bound;
   branched = now.branched;
@@ -47,8 +43,8 @@ told_with cranes first now = record {
   way = now.way;
 }
 
-abbrev pub told_of : InstanceView → Bound → Progress → DoneView
-told_of home first now = told_with (length home.cranes) first now
+abbrev pub done_of : InstanceView → Bound → Progress → DoneView
+done_of home first now = done_with (length home.cranes) first now
 
 -- the end of the schedule that the search began with, as it is told
 told_end : (home : InstanceView) (first : Option (List Slot)) → bound_end (best_end home first) ≡ option_map (ends home) first
@@ -114,7 +110,7 @@ module _ (home : InstanceView) (v : Valid home) {before after : View} (old now :
   }
 
   pub went_searched : IsSearched (record { inst = home; nodes = old.limit; first = first }) before.written after.written
-      (told_of home old.incumbent_end now)
+      (done_of home old.incumbent_end now)
   went_searched = record {
     tree = w.tree;
     run = run_is;
@@ -126,7 +122,7 @@ module _ (home : InstanceView) (v : Valid home) {before after : View} (old now :
   pub went_cranes : (end : ℕ) → now.incumbent_end ≡ Least end → All (λ (s : Slot). s.crane < length home.cranes) now.incumbent
   went_cranes = cranes_low home first v now _ w.progress
 
-  pub went_sound : IsSound (record { inst = home; nodes = old.limit; first = first }) (told_of home old.incumbent_end now)
+  pub went_sound : IsSound (record { inst = home; nodes = old.limit; first = first }) (done_of home old.incumbent_end now)
   went_sound =
       let ends_is = best_end_is home first now _ w.progress in
       record {

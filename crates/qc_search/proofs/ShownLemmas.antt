@@ -3,19 +3,7 @@ use Rattle.std.proofs.Common.{◌≡◌, ℕ, ◌-◌, ◌<◌, ◌≤◌, All, 
 use Rattle.std.proofs.lemmas.List.{get_or-map, get_or_default, length-map}
 use Rattle.qc_num.specs.declared.bound.Bound.{Bound}
 use Rattle.qc_num.specs.declared.bound.Bound.TheVariants.{Least, Never}
-use Rattle.qc_model.specs.declared.direction.Direction.{Direction}
-use Rattle.qc_model.specs.declared.direction.Direction.TheVariants.{Up, Down}
-use Rattle.qc_model.specs.declared.schedule.Slot.{Slot}
-use Rattle.qc_model.specs.declared.turn.Turn.{Turn}
-use Rattle.qc_model.specs.declared.turn.Turn.TheVariants.{OneWay, Free}
-use Rattle.qc_model.specs.Frames.{GoesBy}
-use Rattle.qc_model.specs.Numbers.{most_start}
-use Rattle.qc_model.specs.Instance.{InstanceView, Valid}
-use Rattle.qc_model.specs.Judge.{Goes, IsJudgeable}
-use Rattle.qc_model.specs.Nodes.{AreLeast, schedule_with}
-use Rattle.qc_model.specs.OneWay.{GoesUp, flipped, mirror}
-use Rattle.qc_model.specs.Rules.{Feasible, crane_of, no_slot, start_of, starts}
-use Rattle.qc_model.specs.Seen.{seen, seen_schedule}
+use Rattle.qc_close.specs.Model.{Direction, Up, Down, Slot, Turn, OneWay, Free, GoesBy, most_start, InstanceView, Valid, Goes, IsJudgeable, AreLeast, schedule_with, GoesUp, flipped, mirror, Feasible, crane_of, no_slot, start_of, starts, seen, seen_schedule}
 use Rattle.qc_model.proofs.CompleteNodes.{feasible_least, goes_least, starts_with}
 use Rattle.qc_model.proofs.MirrorLemmas.{seen_valid}
 use Rattle.qc_model.proofs.NodeLemmas.{ends_by, start_at}

@@ -8,17 +8,7 @@ use Rattle.qc_num.specs.Bounds.{IsAtMost, lesser}
 use Rattle.qc_num.proofs.BoundLemmas.{at_most_lesser, at_most_same, at_most_through, lesser_never, same_least}
 use Rattle.smallvec.specs.SmallVec.{SmallVec}
 use Rattle.qc_bounds.proofs.ClosedLemmas.{one_end}
-use Rattle.qc_model.specs.declared.decision.Decision.{Decision}
-use Rattle.qc_model.specs.declared.direction.Direction.{Direction}
-use Rattle.qc_model.specs.declared.direction.Direction.TheVariants.{Up}
-use Rattle.qc_model.specs.declared.turn.Turn.TheVariants.{Free}
-use Rattle.qc_model.specs.Closing.{IsClosable, complete}
-use Rattle.qc_model.specs.declared.schedule.Slot.{Slot}
-use Rattle.qc_model.specs.Instance.{InstanceView}
-use Rattle.qc_model.specs.Leaves.{Leaf, leaf_value}
-use Rattle.qc_model.specs.Nodes.{IsComplete, IsNodeEnd, slot_with}
-use Rattle.qc_model.specs.Rules.{last_end}
-use Rattle.qc_model.specs.Seen.{seen, seen_schedule}
+use Rattle.qc_close.specs.Model.{Decision, Direction, Up, Free, IsClosable, complete, Slot, InstanceView, Leaf, leaf_value, IsComplete, IsNodeEnd, slot_with, last_end, seen, seen_schedule}
 use Rattle.qc_tree.specs.Trees.{Sign, leaf, on_pair, on_task, sign_value}
 use Rattle.qc_search.specs.declared.branch.Branch.{Branch}
 use Rattle.qc_search.specs.declared.branch.Branch.TheVariants.{Pair, Task}

@@ -1,15 +1,7 @@
 -- The end of the best schedule, whichever way it goes.
 use Rattle.std.proofs.Common.{◌≡◌, ℕ, ◌+◌, ◌≤◌, List, [], ◌∷◌, length, map, max, Option, None, Some, refl, ap, sym, ◌∙◌, IfSome, MatchOption}
 use Rattle.qc_num.specs.declared.bound.Bound.TheVariants.{Least, Never}
-use Rattle.qc_model.specs.declared.direction.Direction.{Direction}
-use Rattle.qc_model.specs.declared.direction.Direction.TheVariants.{Up, Down}
-use Rattle.qc_model.specs.declared.schedule.Slot.{Slot}
-use Rattle.qc_model.specs.declared.task.Task.{Task}
-use Rattle.qc_model.specs.Numbers.{most_start}
-use Rattle.qc_model.specs.Instance.{InstanceView}
-use Rattle.qc_model.specs.OneWay.{mirror_slot, mirror_task}
-use Rattle.qc_model.specs.Rules.{ends, last_end, starts}
-use Rattle.qc_model.specs.Seen.{seen, seen_schedule}
+use Rattle.qc_close.specs.Model.{Direction, Up, Down, Slot, Task, most_start, InstanceView, mirror_slot, mirror_task, ends, last_end, starts, seen, seen_schedule}
 use Rattle.qc_model.proofs.CompleteNodes.{ends_with}
 use Rattle.qc_search.specs.declared.progress.Progress.{Progress}
 use Rattle.qc_search.specs.Earned.{TreeNode}

@@ -9,13 +9,7 @@ use Rattle.qc_io.specs.Writes.{Writes}
 use Rattle.qc_io.proofs.WritesLemmas.{writes_cut, writes_then}
 use Rattle.qc_num.specs.declared.bound.Bound.{Bound}
 use Rattle.qc_num.specs.Bounds.{lesser}
-use Rattle.qc_model.specs.declared.direction.Direction.TheVariants.{Up, Down}
-use Rattle.qc_model.specs.declared.turn.Turn.{Turn}
-use Rattle.qc_model.specs.declared.turn.Turn.TheVariants.{OneWay, Free}
-use Rattle.qc_model.specs.declared.schedule.Slot.{Slot}
-use Rattle.qc_model.specs.Instance.{InstanceView}
-use Rattle.qc_model.specs.Numbers.{most_branchings}
-use Rattle.qc_model.specs.OneWay.{mirror}
+use Rattle.qc_close.specs.Model.{Up, Down, Turn, OneWay, Free, Slot, InstanceView, most_branchings, mirror}
 use Rattle.qc_tree.specs.declared.line.Line.TheVariants as line
 use Rattle.qc_tree.specs.Trees.{IsPart, IsSecond, IsTree, Node, Tree, branchings, lines_by, part_text, tree_branchings, tree_text, tree_value, whole_line}
 use Rattle.qc_model.proofs.TurnLemmas.{two_turns}

@@ -3,15 +3,7 @@ use Rattle.std.specs.Prelude.{◌≡◌, ℕ, ◌≤◌, ◌⊎◌, IsTrue, List
 use Rattle.qc_num.specs.declared.bound.Bound.{Bound}
 use Rattle.qc_num.specs.declared.bound.Bound.TheVariants.{Least}
 use Rattle.qc_num.specs.Bounds.{IsAtMost}
-use Rattle.qc_model.specs.declared.decision.Decision.{Decision}
-use Rattle.qc_model.specs.declared.direction.Direction.{Direction}
-use Rattle.qc_model.specs.declared.direction.Direction.TheVariants.{Up, Down}
-use Rattle.qc_model.specs.Closing.{IsClosable, IsWorkBound}
-use Rattle.qc_model.specs.Instance.{InstanceView}
-use Rattle.qc_model.specs.Leaves.{Leaf, chain, packed, ring, reach, is_out_of_reach, leaf_value}
-use Rattle.qc_model.specs.Nodes.{AreLeast, HasStarts, IsComplete, IsInReach, IsNodeEnd}
-use Rattle.qc_model.specs.Rules.{last_end}
-use Rattle.qc_model.specs.Seen.{seen}
+use Rattle.qc_close.specs.Model.{Decision, Direction, Up, Down, IsClosable, IsWorkBound, InstanceView, Leaf, chain, packed, ring, reach, is_out_of_reach, leaf_value, AreLeast, HasStarts, IsComplete, IsInReach, IsNodeEnd, last_end, seen}
 use Rattle.qc_tree.specs.Trees.{Node, Sign, Tree, branches, leaf, tree_branchings}
 
 -- a node of a tree: in which of the two parts it stands, its decisions, newest first, and what its line says

@@ -2,8 +2,7 @@
 use Rattle.std.specs.Prelude.{◌≡◌, ℕ, List, Option, None, Some, Ok}
 use Rattle.qc_gantt.specs.Plan.{plan_in}
 use Rattle.qc_gantt.specs.PlanText.{plan_text}
-use Rattle.qc_model.specs.declared.schedule.Slot.{Slot}
-use Rattle.qc_model.specs.Instance.{InstanceView}
+use Rattle.qc_close.specs.Model.{Slot, InstanceView}
 use Rattle.qc_tree.specs.Trees.{Tree, tree_branchings, tree_value}
 use Rattle.qc_search.specs.Run.{DoneView, IsOffered, IsRun, IsSound, SearchView}
 

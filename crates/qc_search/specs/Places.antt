@@ -1,8 +1,7 @@
 -- inner: the fields of the node at which a search stands, as clauses see them and as they are kept.
 use Rattle.qc_close.specs.Crews.{IsCrewOf}
 use Rattle.qc_dist.specs.Node.{Node}
-use Rattle.qc_model.specs.Instance.{Valid}
-use Rattle.qc_model.specs.Nodes.{Fits}
+use Rattle.qc_close.specs.Model.{Valid, Fits}
 use Rattle.qc_search.specs.declared.place.Node.TheInside.{Inside}
 
 abbrev pub node_of : Inside → Node

@@ -10,18 +10,7 @@ use Rattle.qc_num.specs.Bounds.{IsAtMost, least_bound}
 use Rattle.qc_num.specs.Paths.{HasRoom}
 use Rattle.smallvec.specs.SmallVec.{SmallVec}
 use Rattle.qc_dist.specs.Node.{Node as StartsNode}
-use Rattle.qc_model.specs.declared.decision.Decision.{Decision}
-use Rattle.qc_model.specs.declared.direction.Direction.{Direction}
-use Rattle.qc_model.specs.declared.direction.Direction.TheVariants.{Up, Down}
-use Rattle.qc_model.specs.declared.pair.Pair.{Pair}
-use Rattle.qc_model.specs.declared.schedule.Slot.{Slot}
-use Rattle.qc_model.specs.declared.turn.Turn.TheVariants.{Free}
-use Rattle.qc_model.specs.Instance.{InstanceView, Valid}
-use Rattle.qc_model.specs.Nodes.{Agrees, AreLeast, Fits, IsComplete, IsInReach, IsSettled, schedule_with}
-use Rattle.qc_model.specs.Numbers.{most_branchings, most_start, most_tasks}
-use Rattle.qc_model.specs.OneWay.{flipped}
-use Rattle.qc_model.specs.Rules.{last_end}
-use Rattle.qc_model.specs.Seen.{seen, seen_schedule}
+use Rattle.qc_close.specs.Model.{Decision, Direction, Up, Down, Pair, Slot, Free, InstanceView, Valid, Agrees, AreLeast, Fits, IsComplete, IsInReach, IsSettled, schedule_with, most_branchings, most_start, most_tasks, flipped, last_end, seen, seen_schedule}
 use Rattle.qc_tree.specs.Trees.{Holds, IsTree, Leads, Node, Sign, Tree, part_text, sign_value, tree_text}
 use Rattle.qc_search.specs.declared.progress.Progress.{Progress}
 use Rattle.qc_search.specs.Earned.{IsEarnedBehind, IsKnownEnd, IsSolved, TreeNode, branchings_in, node_at, part_nodes, solved_end, tree_nodes}

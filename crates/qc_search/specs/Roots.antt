@@ -1,9 +1,7 @@
 -- inner: the roots of the parts of a tree, as clauses see them and as they are kept.
 use Rattle.std.specs.Prelude.{◌≡◌, [], Option, None, Some}
 use Rattle.qc_dist.specs.Node.{Node}
-use Rattle.qc_model.specs.declared.turn.Turn.TheVariants.{OneWay, Free}
-use Rattle.qc_model.specs.Instance.{InstanceView}
-use Rattle.qc_model.specs.OneWay.{mirror}
+use Rattle.qc_close.specs.Model.{OneWay, Free, InstanceView, mirror}
 use Rattle.qc_search.specs.declared.roots.Roots.TheInside.{Inside}
 
 -- where cranes go one way there is a root of the mirror too

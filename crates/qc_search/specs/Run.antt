@@ -5,16 +5,7 @@ use Rattle.qc_io.specs.Outside.{GrewByPart}
 use Rattle.qc_num.specs.declared.bound.Bound.{Bound}
 use Rattle.qc_num.specs.declared.bound.Bound.TheVariants.{Least, Never}
 use Rattle.qc_num.specs.Bounds.{IsAtMost}
-use Rattle.qc_model.specs.declared.direction.Direction.{Direction}
-use Rattle.qc_model.specs.declared.schedule.Slot.{Slot}
-use Rattle.qc_model.specs.declared.turn.Turn.{Turn}
-use Rattle.qc_model.specs.declared.turn.Turn.TheVariants.{OneWay, Free}
-use Rattle.qc_model.specs.Instance.{InstanceView}
-use Rattle.qc_model.specs.Judge.{IsJudgeable}
-use Rattle.qc_model.specs.Nodes.{order_pairs, schedule_with}
-use Rattle.qc_model.specs.Numbers.{most_start}
-use Rattle.qc_model.specs.Rules.{ends}
-use Rattle.qc_model.specs.Seen.{seen, seen_schedule}
+use Rattle.qc_close.specs.Model.{Direction, Slot, Turn, OneWay, Free, InstanceView, IsJudgeable, order_pairs, schedule_with, most_start, ends, seen, seen_schedule}
 use Rattle.qc_starts.specs.Tight.{IsAllowedSo, IsTight, IsTightForm}
 use Rattle.qc_tree.specs.Trees.{NoneEarlier, Tree, IsTree, tree_branchings, tree_text, tree_value}
 use Rattle.qc_search.specs.declared.done.Kind.{Kind}

@@ -2,11 +2,8 @@
 use Rattle.std.specs.Prelude.{◌≡◌, ℕ, ◌+◌, ◌-◌, ◌*◌, ◌<◌, List, [], ◌∷◌, length, Bool, true, false, Option, None, Some}
 use Rattle.qc_dist.specs.Children.{behind}
 use Rattle.qc_dist.specs.Node.{IsOpen}
-use Rattle.qc_model.specs.declared.decision.Decision.{Decision}
+use Rattle.qc_close.specs.Model.{Decision, InstanceView, HasStarts, IsSettled, assigned, most_cranes}
 use Rattle.qc_model.specs.declared.decision.Decision.TheVariants as decide
-use Rattle.qc_model.specs.Instance.{InstanceView}
-use Rattle.qc_model.specs.Nodes.{HasStarts, IsSettled, assigned}
-use Rattle.qc_model.specs.Numbers.{most_cranes}
 use Rattle.qc_starts.specs.Seen.{AreAssigned, IsReached}
 use Rattle.qc_tree.specs.Trees.{MayOrder, Sign, on_pair, on_task}
 use Rattle.qc_search.specs.declared.branch.Branch.{Branch}

@@ -1,7 +1,6 @@
 //! The incumbent: the best schedule that is known.
 ghost use Rattle.std.specs.Prelude.{◌≡◌, ◌↔◌, ◌<◌, ◌≤◌, ◌⊎◌, ℕ, List, All, IsTrue, length};
-ghost use Rattle.qc_model.specs.Nodes.{AreLeast, HasStarts, IsNodeEnd, schedule_with};
-ghost use Rattle.qc_model.specs.Numbers.{most_start};
+ghost use Rattle.qc_close.specs.Model.{AreLeast, HasStarts, IsNodeEnd, schedule_with, most_start};
 ghost use Rattle.qc_num.specs.declared.bound.Bound.TheVariants.{Least};
 ghost use Rattle.qc_search.specs.Progress.{Improves, IsPassed, IsTaken, shown_best};
 

@@ -1,8 +1,7 @@
 //! Which branching comes next. It decides how much is shown within a budget, and nothing else: any
 //! choice of an open branching is right.
 ghost use Rattle.std.specs.Prelude.{◌≡◌, ◌<◌, ◌⊎◌, Some, MatchOption, length};
-ghost use Rattle.qc_model.specs.declared.turn.Turn.TheVariants.{OneWay, Free};
-ghost use Rattle.qc_model.specs.Nodes.{HasStarts, IsComplete};
+ghost use Rattle.qc_close.specs.Model.{OneWay, Free, HasStarts, IsComplete};
 ghost use Rattle.qc_starts.specs.Seen.{AreAssigned};
 ghost use Rattle.qc_search.specs.Walk.{IsOpenBranch, IsOpenTask};
 

@@ -2,14 +2,7 @@
 //! cranes and the same order of apart tasks, or of all tasks that conflict where cranes go as they like, and
 //! the earliest starts with these.
 ghost use Rattle.std.specs.Prelude.{◌≡◌, ℕ, ◌<◌, ◌≤◌, [], ◌∷◌, None, length, slice_index_or};
-ghost use Rattle.qc_model.specs.declared.decision.Decision.TheVariants.{Assign};
-ghost use Rattle.qc_model.specs.Frames.{GoesBy};
-ghost use Rattle.qc_model.specs.Instance.{IsApart, Valid, pair_of};
-ghost use Rattle.qc_model.specs.Judge.{IsJudgeable};
-ghost use Rattle.qc_model.specs.Nodes.{Agrees, Conflicts, IsSettled, assigned};
-ghost use Rattle.qc_model.specs.Numbers.{most_start};
-ghost use Rattle.qc_model.specs.Rules.{crane_of, start_of};
-ghost use Rattle.qc_model.specs.Seen.{seen_schedule};
+ghost use Rattle.qc_close.specs.Model.{Assign, GoesBy, IsApart, Valid, pair_of, IsJudgeable, Agrees, Conflicts, IsSettled, assigned, most_start, crane_of, start_of, seen_schedule};
 ghost use Rattle.qc_starts.specs.Seen.{AreAssigned};
 ghost use Rattle.qc_starts.specs.Tight.{IsSeenSo, order_in};
 ghost use Rattle.qc_search.specs.Progress.{AreOrdered, IsBegun, IsBegunWith, IsTightened, known_best};

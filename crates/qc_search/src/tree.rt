@@ -1,10 +1,7 @@
 //! The lines of a whole tree.
 ghost use Rattle.std.specs.Prelude.{◌≡◌, ◌≤◌, List, Option, [], ◌∷◌, length};
 ghost use Rattle.qc_io.specs.Writes.{Writes};
-ghost use Rattle.qc_model.specs.declared.schedule.Slot.{Slot};
-ghost use Rattle.qc_model.specs.declared.turn.Turn.TheVariants.{OneWay, Free};
-ghost use Rattle.qc_model.specs.Numbers.{most_branchings, most_tasks};
-ghost use Rattle.qc_model.specs.OneWay.{mirror};
+ghost use Rattle.qc_close.specs.Model.{Slot, OneWay, Free, most_branchings, most_tasks, mirror};
 ghost use Rattle.qc_num.specs.Paths.{HasRoom};
 ghost use Rattle.qc_tree.specs.declared.line.Line.TheVariants.{End};
 ghost use Rattle.qc_tree.specs.Trees.{whole_line};

@@ -1,9 +1,7 @@
 -- Lists of nodes, one behind the other.
 use Rattle.std.proofs.Common.{◌≡◌, ◌+◌, List, [], ◌∷◌, ◌++◌, cond, map, refl, sym, subst, arith}
 use Rattle.std.proofs.lemmas.List.Sums.{sum_by-append}
-use Rattle.qc_model.specs.declared.decision.Decision.{Decision}
-use Rattle.qc_model.specs.Instance.{InstanceView}
-use Rattle.qc_model.specs.Leaves.{chain}
+use Rattle.qc_close.specs.Model.{Decision, InstanceView, chain}
 use Rattle.qc_tree.specs.Trees.{Leads, Node, branches, branchings, leaf}
 
 module _ (inst : InstanceView) where

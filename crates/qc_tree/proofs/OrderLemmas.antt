@@ -1,14 +1,7 @@
 -- Which orders may be branched on, and that a feasible schedule has one of them.
 use Rattle.std.proofs.Common.{◌≡◌, ℕ, ◌<◌, ◌≤◌, ◌⊎◌, inl, inr, List, Option, Some, IfSome, sym, subst, subst₂, ◌∙◌, arith}
 use Rattle.std.proofs.lemmas.Bool.{cases_eq}
-use Rattle.qc_model.specs.declared.decision.Decision.{Decision}
-use Rattle.qc_model.specs.declared.schedule.Slot.{Slot}
-use Rattle.qc_model.specs.declared.turn.Turn.{Turn}
-use Rattle.qc_model.specs.declared.turn.Turn.TheVariants.{OneWay, Free}
-use Rattle.qc_model.specs.Instance.{InstanceView, IsApart, Valid, bay_of}
-use Rattle.qc_model.specs.Nodes.{Agrees, Clash, Conflicts, assigned}
-use Rattle.qc_model.specs.Rules.{Feasible, IsClear, crane_of, end_of, slot_distance, start_of}
-use Rattle.qc_model.specs.Ticks.{task_distance, travel_between}
+use Rattle.qc_close.specs.Model.{Decision, Slot, Turn, OneWay, Free, InstanceView, IsApart, Valid, bay_of, Agrees, Clash, Conflicts, assigned, Feasible, IsClear, crane_of, end_of, slot_distance, start_of, task_distance, travel_between}
 use Rattle.qc_model.proofs.NodeLemmas.{assigned_is}
 use Rattle.qc_tree.specs.Trees.{MayOrderBy}
 

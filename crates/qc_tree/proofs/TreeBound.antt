@@ -6,18 +6,8 @@ use Rattle.qc_num.specs.declared.bound.Bound.{Bound}
 use Rattle.qc_num.specs.declared.bound.Bound.TheVariants.{Least, Never}
 use Rattle.qc_num.specs.Bounds.{IsAtMost}
 use Rattle.qc_num.proofs.BoundLemmas.{first_through, second_through}
-use Rattle.qc_model.specs.declared.decision.Decision.{Decision}
+use Rattle.qc_close.specs.Model.{Decision, Slot, Task, Turn, OneWay, Free, GoesBy, InstanceView, Valid, leaf_value, Agrees, Conflicts, Fits, IsSettled, IsAllowedBy, mirror, mirror_schedule, mirror_slot, mirror_task, Feasible, crane_of, ends, last_end, starts}
 use Rattle.qc_model.specs.declared.decision.Decision.TheVariants as decide
-use Rattle.qc_model.specs.declared.schedule.Slot.{Slot}
-use Rattle.qc_model.specs.declared.task.Task.{Task}
-use Rattle.qc_model.specs.declared.turn.Turn.{Turn}
-use Rattle.qc_model.specs.declared.turn.Turn.TheVariants.{OneWay, Free}
-use Rattle.qc_model.specs.Frames.{GoesBy}
-use Rattle.qc_model.specs.Instance.{InstanceView, Valid}
-use Rattle.qc_model.specs.Leaves.{leaf_value}
-use Rattle.qc_model.specs.Nodes.{Agrees, Conflicts, Fits, IsSettled}
-use Rattle.qc_model.specs.OneWay.{IsAllowedBy, mirror, mirror_schedule, mirror_slot, mirror_task}
-use Rattle.qc_model.specs.Rules.{Feasible, crane_of, ends, last_end, starts}
 use Rattle.qc_laws.proofs.NodeLemmas.{leaf_le}
 use Rattle.qc_model.proofs.MirrorLemmas.{mirror_valid}
 use Rattle.qc_model.proofs.NodeLemmas.{conflict_turned, unsettled_unordered}

@@ -5,18 +5,8 @@ use Rattle.std.specs.List.{flat_map}
 use Rattle.qc_num.specs.declared.bound.Bound.{Bound}
 use Rattle.qc_num.specs.declared.bound.Bound.TheVariants.{Least, Never}
 use Rattle.qc_num.specs.Bounds.{IsAtMost, lesser, least_bound}
-use Rattle.qc_model.specs.declared.decision.Decision.{Decision}
+use Rattle.qc_close.specs.Model.{Decision, Slot, Turn, OneWay, Free, InstanceView, IsApart, Leaf, chain, packed, ring, reach, work, leaf_value, crane_numbers, Conflicts, IsSettled, assigned, most_branchings, IsAllowed, mirror, ends}
 use Rattle.qc_model.specs.declared.decision.Decision.TheVariants as decide
-use Rattle.qc_model.specs.declared.schedule.Slot.{Slot}
-use Rattle.qc_model.specs.declared.turn.Turn.{Turn}
-use Rattle.qc_model.specs.declared.turn.Turn.TheVariants.{OneWay, Free}
-use Rattle.qc_model.specs.Instance.{InstanceView, IsApart}
-use Rattle.qc_model.specs.Leaves.{Leaf, chain, packed, ring, reach, work, leaf_value}
-use Rattle.qc_model.specs.Work.{crane_numbers}
-use Rattle.qc_model.specs.Nodes.{Conflicts, IsSettled, assigned}
-use Rattle.qc_model.specs.Numbers.{most_branchings}
-use Rattle.qc_model.specs.OneWay.{IsAllowed, mirror}
-use Rattle.qc_model.specs.Rules.{ends}
 use Rattle.qc_tree.specs.declared.line.Line.{Line}
 use Rattle.qc_tree.specs.declared.line.Line.TheVariants.{Title, FreeTitle, Up, Down, Assign, Order, Chain, Ring, Reach, Work, Clash, End}
 use Rattle.qc_tree.specs.Lines.{line_text}

@@ -1,6 +1,5 @@
 use Rattle.std.proofs.Common.{◌≡◌, sym, ap, ◌∙◌}
-use Rattle.qc_model.specs.declared.turn.Turn.{Turn}
-use Rattle.qc_model.specs.Instance.{InstanceView}
+use Rattle.qc_close.specs.Model.{Turn, InstanceView}
 use Rattle.qc_bounds.proofs.PackedLemmas.{early_at_free, early_at_one_way, starts_known}
 use Rattle.qc_bounds.proofs.packed.early.Goals as goal
 

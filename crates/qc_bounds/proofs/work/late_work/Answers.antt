@@ -2,9 +2,7 @@ use Rattle.std.proofs.Common.{◌≡◌, ◌≤◌, false, sym, subst, ◌∙◌
 use Rattle.qc_num.specs.Bounds.{IsAtMost}
 use Rattle.qc_num.specs.declared.bound.Bound.{Bound}
 use Rattle.qc_num.specs.declared.bound.Bound.TheVariants.{Least}
-use Rattle.qc_model.specs.declared.limits.TheConstants.{MOST_START}
-use Rattle.qc_model.specs.Closed.{is_closed}
-use Rattle.qc_model.specs.Closing.{IsWorkLate}
+use Rattle.qc_close.specs.Model.{MOST_START, is_closed, IsWorkLate}
 use Rattle.qc_bounds.specs.Work.{IsWorkShown}
 use Rattle.qc_bounds.proofs.WorkLemmas.{some_end, work_early, work_is}
 use Rattle.qc_bounds.proofs.work.late_work.Goals as goal

@@ -1,9 +1,7 @@
 use Rattle.std.proofs.Common.{◌≡◌, ◌*◌, Option, Some, IfSome, eqb, of_z, to_z, w32, ap, sym, subst, ◌∙◌, arith, rules}
 use Rattle.std.proofs.lemmas.Bool.{cond-false, ne_eqb}
 use Rattle.std.proofs.lemmas.Int.{ints}
-use Rattle.qc_model.specs.declared.frame.Frame.{Frame}
-use Rattle.qc_model.specs.declared.limits.TheConstants.{MOST_TASKS}
-use Rattle.qc_model.specs.Bays.{bays_up}
+use Rattle.qc_close.specs.Model.{Frame, MOST_TASKS, bays_up}
 use Rattle.qc_close.specs.Bars.{done_by, done_with}
 use Rattle.qc_close.specs.Owns.{IsSmall}
 use Rattle.qc_close.specs.declared.frames.Own.{Own}

@@ -1,7 +1,6 @@
 use Rattle.std.proofs.Common.{Option, IfSome, false, eqb, is_none, sym, subst, arith}
 use Rattle.std.specs.Option.{option_map_or}
-use Rattle.qc_model.specs.declared.limits.TheConstants.{MOST_TASKS}
-use Rattle.qc_model.specs.Assignments.{crane_in}
+use Rattle.qc_close.specs.Model.{MOST_TASKS, crane_in}
 use Rattle.qc_close.specs.Bars.{stretch}
 use Rattle.qc_close.specs.Owns.{IsSmall}
 use Rattle.qc_close.specs.declared.frames.Own.{Own}

@@ -1,8 +1,6 @@
 use Rattle.std.proofs.Common.{◌||◌, ◌∙◌, ap, sym}
 use Rattle.std.proofs.lemmas.Bool.{or_left}
-use Rattle.qc_model.specs.Barred.{barred_frame}
-use Rattle.qc_model.specs.Closed.{is_short_along, is_short_before}
-use Rattle.qc_model.specs.Ways.{way_frame}
+use Rattle.qc_close.specs.Model.{barred_frame, is_short_along, is_short_before, way_frame}
 use Rattle.qc_close.proofs.LimitLemmas.{ways_near}
 use Rattle.qc_close.proofs.closed.is_short_by.Goals as goal
 

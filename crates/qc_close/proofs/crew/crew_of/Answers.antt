@@ -1,8 +1,6 @@
 use Rattle.std.proofs.Common.{◌≡◌, List, Option, ℕ, None, Some, ap, length, refl, subst, sym, ◌∙◌}
 use Rattle.std.proofs.lemmas.List.{length-replicate}
-use Rattle.qc_model.specs.Assignments.{AreInRange, crane_in, no_cranes}
-use Rattle.qc_model.specs.Closed.{is_short_before}
-use Rattle.qc_model.specs.Instance.{InstanceView}
+use Rattle.qc_close.specs.Model.{AreInRange, crane_in, no_cranes, is_short_before, InstanceView}
 use Rattle.qc_close.specs.Bars.{IsTable}
 use Rattle.qc_close.specs.Lasts.{IsLast}
 use Rattle.qc_close.specs.Lefts.{IsLeft}

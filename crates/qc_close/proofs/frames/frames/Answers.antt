@@ -1,11 +1,7 @@
 use Rattle.std.proofs.Common.{◌≡◌, ◌<◌, ◌∙◌, Option, IfSome, false, eqb, ap, arith, length, subst, sym}
 use Rattle.std.proofs.lemmas.List.{length-set}
 use Rattle.std.specs.Option.{option_map_or}
-use Rattle.qc_model.specs.declared.limits.TheConstants.{MOST_TASKS}
-use Rattle.qc_model.specs.Assignments.{crane_in}
-use Rattle.qc_model.specs.Barred.{barred_frame}
-use Rattle.qc_model.specs.Frames.{own}
-use Rattle.qc_model.specs.declared.frame.Frame.{Frame}
+use Rattle.qc_close.specs.Model.{MOST_TASKS, crane_in, barred_frame, own, Frame}
 use Rattle.qc_close.specs.Counts.{IsNear, no_frame}
 use Rattle.qc_close.specs.Bars.{own_in}
 use Rattle.qc_close.specs.Owns.{IsSmall, frame_by}

@@ -1,6 +1,5 @@
 use Rattle.std.proofs.Common.{◌≡◌, ℕ, ◌<◌, length, get_or}
-use Rattle.qc_model.specs.declared.frame.Frame.{Frame}
-use Rattle.qc_model.specs.Barred.{barred_frame}
+use Rattle.qc_close.specs.Model.{Frame, barred_frame}
 use Rattle.qc_close.specs.Counts.{IsNear}
 use Rattle.qc_close.proofs.frames.frames.Given as goal
 

@@ -1,6 +1,5 @@
 use Rattle.std.proofs.Common.{◌≡◌, ℕ, ◌-◌, ◌<◌, Bool, true, false, not, Option, None, Some, ap, is_none, is_some, length, sym, ◌∙◌, arith}
-use Rattle.qc_model.specs.Assignments.{crane_in}
-use Rattle.qc_model.specs.Instance.{task}
+use Rattle.qc_close.specs.Model.{crane_in, task}
 use Rattle.qc_close.proofs.OwnLemmas.{own_next, own_skip}
 use Rattle.qc_close.proofs.frames.left_tasks.Goals as goal
 use Rattle.qc_close.proofs.frames.left_tasks.Goals.{then-is_none, else-is_none}

@@ -1,6 +1,5 @@
 use Rattle.std.proofs.Common.{Option, IfSome, sym, subst, rules}
-use Rattle.qc_model.specs.declared.limits.TheConstants.{MOST_TASKS}
-use Rattle.qc_model.specs.Instance.{IsOnRail}
+use Rattle.qc_close.specs.Model.{MOST_TASKS, IsOnRail}
 use Rattle.qc_close.specs.declared.frames.Own.{Own}
 use Rattle.qc_close.specs.Owns.{IsSmall}
 use Rattle.qc_close.proofs.OwnLemmas.{rail_back, rail_high, rail_min}

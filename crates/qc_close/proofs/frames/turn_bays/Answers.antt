@@ -1,6 +1,5 @@
 use Rattle.std.proofs.Common.{◌≡◌, ◌≤◌, ◌+◌, ℕ, ℤ, arith, of_z, to_z, w32}
-use Rattle.qc_model.specs.Bays.{bays_between, bays_up}
-use Rattle.qc_model.specs.Instance.{IsOnRail}
+use Rattle.qc_close.specs.Model.{bays_between, bays_up, IsOnRail}
 use Rattle.qc_model.proofs.Bays.{bays}
 use Rattle.qc_close.proofs.frames.turn_bays.Goals as goal
 

@@ -1,8 +1,7 @@
 use Rattle.std.proofs.Common.{ℕ, get_or, ap, subst, arith}
 use Rattle.std.proofs.lemmas.List.{get_or_read}
 use Rattle.std.specs.Int.{IsGcd}
-use Rattle.qc_model.specs.declared.crane.Crane.{Crane}
-use Rattle.qc_model.specs.Instance.{no_crane}
+use Rattle.qc_close.specs.Model.{Crane, no_crane}
 use Rattle.qc_close.proofs.GrainLemmas.{grain_more}
 use Rattle.qc_close.proofs.grain.with_cranes.Goals as goal
 

@@ -1,6 +1,5 @@
 use Rattle.std.proofs.Common.{◌≡◌, ℕ, ◌-◌, ◌<◌, get_or}
-use Rattle.qc_model.specs.declared.frame.Frame.{Frame}
-use Rattle.qc_model.specs.Closed.{bays_to}
+use Rattle.qc_close.specs.Model.{Frame, bays_to}
 use Rattle.qc_close.specs.Counts.{apart}
 use Rattle.qc_close.proofs.sums.same_leg.Given as goal
 

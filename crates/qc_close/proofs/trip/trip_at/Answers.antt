@@ -1,12 +1,7 @@
 use Rattle.std.proofs.lemmas.Grind.{common_steps}
 use Rattle.std.proofs.Common.{◌<◌, ◌+◌, ◌∙◌, ap, arith, eqb, filter, get_or, length, nat_lt, refl, sym, subst}
 use Rattle.std.proofs.lemmas.Bool.{and_parts, ltb-true, ne_eqb}
-use Rattle.qc_model.specs.declared.task.Task.{Task}
-use Rattle.qc_model.specs.declared.way.Trip.{Trip}
-use Rattle.qc_model.specs.Assignments.{crane_in}
-use Rattle.qc_model.specs.Instance.{bay_of, crane}
-use Rattle.qc_model.specs.Ways.{trip_along, trip_for, trip_from}
-use Rattle.qc_model.specs.Work.{task_numbers}
+use Rattle.qc_close.specs.Model.{Task, Trip, crane_in, bay_of, crane, trip_along, trip_for, trip_from, task_numbers}
 use Rattle.qc_close.specs.Trips.{IsWideTrip, at_spot}
 use Rattle.qc_close.proofs.TripLemmas.{berth_wide, from_task, more_wide, none_behind, rail_same, task_rail, task_wide, trip_begins, trip_ends, trip_goes}
 use Rattle.qc_close.proofs.trip.trip_at.Goals as goal

@@ -1,7 +1,6 @@
 use Rattle.std.proofs.Common.{◌<◌, ◌+◌, ◌*◌, ap, arith, length, subst, sym}
 use Rattle.std.proofs.lemmas.List.{get_or_read}
-use Rattle.qc_model.specs.declared.way.Trip.{Trip}
-use Rattle.qc_model.specs.declared.way.Way.{Way}
+use Rattle.qc_close.specs.Model.{Trip, Way}
 use Rattle.qc_close.specs.Trips.{at_spot, no_trip}
 use Rattle.qc_close.proofs.LongestLemmas.{IsFollowed, follow_all, follow_none, follow_with}
 use Rattle.qc_close.proofs.TripLemmas.{trip_wide}

@@ -1,7 +1,5 @@
 use Rattle.std.proofs.Common.{◌≡◌, List, Option, ℕ}
-use Rattle.qc_model.specs.declared.turn.Turn.{Turn}
-use Rattle.qc_model.specs.Frames.{frame}
-use Rattle.qc_model.specs.Ways.{own_way}
+use Rattle.qc_close.specs.Model.{Turn, frame, own_way}
 use Rattle.qc_close.specs.Moves.{IsMoving}
 use Rattle.qc_close.proofs.LongestLemmas.{IsFollowed}
 use Rattle.qc_close.proofs.way.longest_way.Given as goal

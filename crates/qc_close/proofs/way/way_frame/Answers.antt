@@ -1,9 +1,6 @@
 use Rattle.std.proofs.Common.{Option, IfSome, ◌∙◌, ap, arith, eqb, false, subst, sym}
 use Rattle.std.specs.Option.{option_map_or}
-use Rattle.qc_model.specs.declared.frame.Frame.{Frame}
-use Rattle.qc_model.specs.declared.limits.TheConstants.{MOST_TASKS}
-use Rattle.qc_model.specs.declared.way.Way.{Way}
-use Rattle.qc_model.specs.Assignments.{crane_in}
+use Rattle.qc_close.specs.Model.{Frame, MOST_TASKS, Way, crane_in}
 use Rattle.qc_close.specs.Bars.{own_in}
 use Rattle.qc_close.specs.Owns.{IsSmall}
 use Rattle.qc_close.specs.declared.frames.Own.{Own}

@@ -1,8 +1,6 @@
 use Rattle.std.proofs.Common.{◌≡◌, ◌<◌, ◌∙◌, List, Option, ℕ, arith, length, map, take}
 use Rattle.std.proofs.lemmas.List.{length-set}
-use Rattle.qc_model.specs.Barred.{barred_frame}
-use Rattle.qc_model.specs.Ways.{way_frame}
-use Rattle.qc_model.specs.Work.{crane_numbers}
+use Rattle.qc_close.specs.Model.{barred_frame, way_frame, crane_numbers}
 use Rattle.qc_close.specs.Counts.{no_frame}
 use Rattle.qc_close.specs.Moves.{IsMoving}
 use Rattle.qc_close.proofs.OwnLemmas.{frame_at, frames_all, frames_more}

@@ -1,8 +1,5 @@
 use Rattle.std.proofs.Common.{◌≡◌, ◌<◌, List, Option, ℕ, get_or, length, map, take}
-use Rattle.qc_model.specs.declared.frame.Frame.{Frame}
-use Rattle.qc_model.specs.Barred.{barred_frame}
-use Rattle.qc_model.specs.Ways.{way_frame}
-use Rattle.qc_model.specs.Work.{crane_numbers}
+use Rattle.qc_close.specs.Model.{Frame, barred_frame, way_frame, crane_numbers}
 use Rattle.qc_close.specs.Moves.{IsMoving}
 use Rattle.qc_close.proofs.way.way_frames.Given as goal
 

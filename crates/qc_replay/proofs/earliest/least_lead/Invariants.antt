@@ -1,6 +1,5 @@
 use Rattle.std.proofs.Common.{◌≡◌, ◌+◌, ◌≤◌, IfSome, map, take}
-use Rattle.qc_model.specs.Nodes.{head}
-use Rattle.qc_model.specs.Numbers.{most_distance, most_ready}
+use Rattle.qc_close.specs.Model.{head, most_distance, most_ready}
 use Rattle.qc_model.proofs.Extremes.{least_option}
 use Rattle.qc_replay.proofs.earliest.least_lead.Given as goal
 

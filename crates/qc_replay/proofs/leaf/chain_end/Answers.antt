@@ -1,7 +1,5 @@
 use Rattle.std.proofs.Common.{◌-◌, ◌∙◌, ap, sym, arith}
-use Rattle.qc_model.specs.declared.task.Task.{Task}
-use Rattle.qc_model.specs.Instance.{ticks_of}
-use Rattle.qc_model.specs.Leaves.{chain_end}
+use Rattle.qc_close.specs.Model.{Task, ticks_of, chain_end}
 use Rattle.qc_replay.specs.Walk.{from_file}
 use Rattle.qc_replay.proofs.LeafFacts.{end_is, no_end}
 use Rattle.qc_replay.proofs.leaf.chain_end.Goals as goal

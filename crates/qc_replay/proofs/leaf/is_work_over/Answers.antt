@@ -1,7 +1,5 @@
 use Rattle.std.proofs.Common.{◌∙◌, List, Option, ℕ, ap}
-use Rattle.qc_model.specs.declared.turn.Turn.{Turn}
-use Rattle.qc_model.specs.Closed.{is_closed}
-use Rattle.qc_model.specs.Instance.{InstanceView}
+use Rattle.qc_close.specs.Model.{Turn, is_closed, InstanceView}
 use Rattle.qc_replay.proofs.leaf.is_work_over.Goals as goal
 
 pub returns : goal.returns

@@ -1,6 +1,5 @@
 use Rattle.std.proofs.Common.{◌≡◌, ◌+◌, ◌*◌, ◌<◌, ◌≤◌, ◌++◌, ℕ, List, drop, length, option_map}
-use Rattle.qc_model.specs.Numbers.{most_distance, most_work}
-use Rattle.qc_model.specs.Leaves.{chain_ticks}
+use Rattle.qc_close.specs.Model.{most_distance, most_work, chain_ticks}
 use Rattle.qc_replay.specs.Walk.{from_file}
 use Rattle.qc_replay.proofs.leaf.way_along.Given as goal
 

@@ -1,8 +1,7 @@
 use Rattle.std.proofs.Common.{◌≡◌, ◌∙◌, ◌-◌, ◌&&◌, Err, ap, subst, sym, true, false}
 use Rattle.std.proofs.lemmas.Bool.{true≢false}
 use Rattle.qc_dist.specs.Node.{Node}
-use Rattle.qc_model.specs.Instance.{InstanceView}
-use Rattle.qc_model.specs.Nodes.{IsSettled}
+use Rattle.qc_close.specs.Model.{InstanceView, IsSettled}
 use Rattle.qc_tree.specs.declared.fault.TreeKind.{TreeKind}
 use Rattle.qc_tree.specs.declared.line.Line.TheVariants.{Order}
 use Rattle.qc_replay.specs.Part.{IsJudged}

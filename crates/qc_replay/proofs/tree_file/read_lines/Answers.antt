@@ -1,7 +1,6 @@
 use Rattle.std.proofs.Common.{◌∙◌, ◌≤◌, ap, arith, Err, length, rules, subst, sym}
 use Rattle.std.specs.Io.KnownBytes.{prepend_known}
-use Rattle.qc_model.specs.Instance.{InstanceView}
-use Rattle.qc_model.specs.Numbers.{most_cranes}
+use Rattle.qc_close.specs.Model.{InstanceView, most_cranes}
 use Rattle.qc_replay.specs.declared.fault.ReplayError.TheVariants.{ReadFault}
 use Rattle.qc_replay.specs.File.{Fails, Leads}
 use Rattle.qc_replay.specs.Walk.{Reading}

@@ -5,8 +5,7 @@ use Rattle.qc_replay.specs.File.{Fails, IsReadThrough}
 use Rattle.qc_replay.specs.Shown.{IsShown}
 use Rattle.qc_replay.specs.Stages.{WalkView}
 use Rattle.qc_replay.specs.Walk.{start, tree_in}
-use Rattle.qc_replay.proofs.OneTree.{one_tree}
-use Rattle.qc_replay.proofs.TreeFacts.{each_ok, never_faulty, no_earlier, one_value, read_in, shows, whatever_ok}
+use Rattle.qc_replay.proofs.TreeFacts.{each_ok, never_faulty, no_earlier, one_value, read_in, shows}
 use Rattle.qc_replay.proofs.tree_file.replay.Goals as goal
 
 pub returns-clause-read : goal.returns-clause-read
@@ -58,8 +57,3 @@ returns-clause-one_value g c =
     c.read_file-read.result (one_value inst c.in_ok-walk.ensures.valid file)
     (subst (λ (w : WalkView). IfOk c.read_file-read.result (IsReadThrough w.inst file)) c.in_ok-walk.ensures.start
     c.read_file-read.ensures.read)
-
-pub returns-clause-one_tree : goal.returns-clause-one_tree
-returns-clause-one_tree g c =
-    whatever_ok _ c.read_file-read.result
-    (one_tree c.args.inst.now c.in_ok-walk.ensures.valid (file_at (g.S.Sink.view c.args.shelf.now).files c.args.name.now))

@@ -1,8 +1,6 @@
 use Rattle.std.proofs.Common.{length, ap, arith}
 use Rattle.std.proofs.lemmas.List.FromFn.{fill_by_all}
-use Rattle.qc_model.specs.Instance.{InstanceView}
-use Rattle.qc_model.specs.Nodes.{slot_with}
-use Rattle.qc_model.specs.Rules.{no_slot}
+use Rattle.qc_close.specs.Model.{InstanceView, slot_with, no_slot}
 use Rattle.qc_search.proofs.best.keep.Goals as goal
 
 pub returns : goal.returns

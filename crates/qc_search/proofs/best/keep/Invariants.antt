@@ -1,6 +1,5 @@
 use Rattle.std.proofs.Common.{◌≡◌, ℕ, ◌<◌, List, length, slice_index_or}
-use Rattle.qc_model.specs.Nodes.{AreLeast, slot_with}
-use Rattle.qc_model.specs.Rules.{no_slot}
+use Rattle.qc_close.specs.Model.{AreLeast, slot_with, no_slot}
 use Rattle.qc_search.proofs.best.keep.Given as goal
 
 abbrev pub invariant-loop-task : goal.invariant-loop-task

@@ -1,9 +1,6 @@
 use Rattle.std.proofs.Common.{◌≡◌, ◌⊎◌, inl, inr, ℕ, length, List, Option, None, Some, IfSome, get_or, sym, ap, subst, ◌∙◌, arith}
 use Rattle.std.proofs.lemmas.Bool.{cases_eq, false≢true}
-use Rattle.qc_model.specs.declared.decision.Decision.{Decision}
-use Rattle.qc_model.specs.declared.pair.Pair.{Pair}
-use Rattle.qc_model.specs.Instance.{InstanceView, IsApart, pair_of}
-use Rattle.qc_model.specs.Nodes.{IsSettled}
+use Rattle.qc_close.specs.Model.{Decision, Pair, InstanceView, IsApart, pair_of, IsSettled}
 use Rattle.qc_starts.proofs.KeptLemmas.{IsSettledPair}
 use Rattle.qc_search.specs.declared.choice.Unsettled.{Unsettled}
 use Rattle.qc_search.proofs.OrderLemmas.{all_settled}

@@ -1,6 +1,5 @@
 use Rattle.std.proofs.Common.{◌≡◌, ℕ, ◌<◌, None, IfSome, slice_index_or}
-use Rattle.qc_model.specs.Instance.{IsApart, pair_of}
-use Rattle.qc_model.specs.Nodes.{IsSettled}
+use Rattle.qc_close.specs.Model.{IsApart, pair_of, IsSettled}
 use Rattle.qc_starts.proofs.KeptLemmas.{IsSettledPair}
 use Rattle.qc_search.proofs.choice.next_apart.Given as goal
 

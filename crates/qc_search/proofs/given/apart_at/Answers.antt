@@ -1,6 +1,5 @@
 use Rattle.std.proofs.Common.{◌<◌, List, length, get_or, sym, subst, arith}
-use Rattle.qc_model.specs.declared.pair.Pair.{Pair}
-use Rattle.qc_model.specs.Instance.{IsApart, pair_of}
+use Rattle.qc_close.specs.Model.{Pair, IsApart, pair_of}
 use Rattle.qc_starts.proofs.KeptLemmas.{apart_at}
 use Rattle.qc_search.proofs.given.apart_at.Goals as goal
 

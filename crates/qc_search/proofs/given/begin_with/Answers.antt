@@ -1,9 +1,5 @@
 use Rattle.std.proofs.Common.{◌≤◌, List, ap₂, sym, subst, ◌∙◌}
-use Rattle.qc_model.specs.declared.schedule.Slot.{Slot}
-use Rattle.qc_model.specs.Instance.{InstanceView}
-use Rattle.qc_model.specs.Numbers.{most_start}
-use Rattle.qc_model.specs.Rules.{start_of}
-use Rattle.qc_model.specs.Seen.{seen_schedule}
+use Rattle.qc_close.specs.Model.{Slot, InstanceView, most_start, start_of, seen_schedule}
 use Rattle.qc_search.proofs.GivenLemmas.{seen_soon}
 use Rattle.qc_search.proofs.given.begin_with.Goals as goal
 

@@ -1,6 +1,5 @@
 use Rattle.std.proofs.Common.{ℕ, subst, ◌∙◌, ap}
-use Rattle.qc_model.specs.Instance.{InstanceView}
-use Rattle.qc_model.specs.Rules.{ends}
+use Rattle.qc_close.specs.Model.{InstanceView, ends}
 use Rattle.qc_search.specs.Progress.{Improves}
 use Rattle.qc_search.proofs.GivenLemmas.{offer_taken}
 use Rattle.qc_search.proofs.given.offer.Goals as goal

@@ -1,7 +1,8 @@
 use Rattle.std.proofs.Common.{ℕ, inl, inr, IsSome, sym, subst, ◌∙◌, arith}
 use Rattle.std.proofs.lemmas.Bool.{cases_eq}
 use Rattle.qc_model.specs.Nodes.{Conflicts, IsSettled}
-use Rattle.qc_search.proofs.OrderLemmas.{conflict_moves, conflicts_ordered}
+use Rattle.qc_search.proofs.DecidedLemmas.{conflict_moves}
+use Rattle.qc_search.proofs.OrderLemmas.{conflicts_ordered}
 use Rattle.qc_search.proofs.given.order_all.Goals as goal
 
 pub loop-task-preserved : goal.loop-task-preserved
@@ -16,7 +17,7 @@ loop-task-preserved c =
       agrees = made.agrees;
       given = λ j low. subst IsSome (sym (made.cranes j)) (inv.given j low);
       settled = λ i j rising under conflict.
-          let before = conflict_moves inst new old (λ t. sym (made.cranes t)) i j conflict in
+          let before = conflict_moves inst new old (λ t v is. sym (made.cranes t) ∙ is) i j conflict in
           elim (cases_eq j c.loop-task.task) [
             | inl same ↦
                 subst (λ (n : ℕ). IsSettled inst new i n) (sym same)

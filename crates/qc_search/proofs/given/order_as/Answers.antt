@@ -1,8 +1,7 @@
 use Rattle.std.proofs.Common.{List, ◌∷◌, ap, sym, subst, ◌∙◌}
 use Rattle.std.proofs.lemmas.Bool.{false≢true}
 use Rattle.qc_dist.specs.Node.{IsOpen}
-use Rattle.qc_model.specs.declared.decision.Decision.{Decision}
-use Rattle.qc_model.specs.Nodes.{Agrees, IsSettled, assigned}
+use Rattle.qc_close.specs.Model.{Decision, Agrees, IsSettled, assigned}
 use Rattle.qc_starts.specs.Seen.{IsReached}
 use Rattle.qc_starts.specs.Tight.{order_in}
 use Rattle.qc_search.proofs.OrderLemmas.{has_starts_of, order_agreed, order_assigns, order_open, order_reached, order_settles, settled_more}

@@ -1,11 +1,8 @@
 use Rattle.std.proofs.Common.{◌≡◌, ℕ, ◌+◌, ◌<◌, inl, inr, List, sym, subst, ◌∙◌, arith}
 use Rattle.std.proofs.lemmas.Bool.{cases_eq, false≢true}
 use Rattle.qc_dist.specs.Node.{Node}
-use Rattle.qc_model.specs.declared.decision.Decision.{Decision}
-use Rattle.qc_model.specs.declared.schedule.Slot.{Slot}
-use Rattle.qc_model.specs.Instance.{InstanceView}
-use Rattle.qc_model.specs.Nodes.{Agrees, Conflicts, IsSettled, assigned}
-use Rattle.qc_search.proofs.OrderLemmas.{conflict_moves}
+use Rattle.qc_close.specs.Model.{Decision, Slot, InstanceView, Agrees, Conflicts, IsSettled, assigned}
+use Rattle.qc_search.proofs.DecidedLemmas.{conflict_moves}
 use Rattle.qc_search.proofs.given.order_below.Goals as goal
 use Rattle.qc_search.proofs.given.order_below.Goals.{then-conflict, else-conflict}
 
@@ -50,7 +47,7 @@ loop-other-preserved c =
             settled = λ i under conflict. elim (cases_eq i other) [
               | inl same ↦
                   let there = subst (λ (n : ℕ). Conflicts inst ds n task) same conflict in
-                  let here = conflict_moves inst ds c.loop-other.starts.decisions inv.cranes other task there in
+                  let here = conflict_moves inst ds c.loop-other.starts.decisions (λ t v is. inv.cranes t ∙ is) other task there in
                   absurd (false≢true (sym w.if-conflict.false ∙ told.1 here))
               | inr differ ↦ inv.settled i (omega arith) conflict
             ];

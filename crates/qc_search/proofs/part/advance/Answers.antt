@@ -2,8 +2,7 @@ use Rattle.std.proofs.Common.{◌≡◌, ◌≤◌, List, [], ◌∷◌, None, O
 use Rattle.std.proofs.lemmas.Bool.{false≢true}
 use Rattle.qc_dist.specs.Children.{IsNextChild, behind}
 use Rattle.qc_dist.specs.Node.{Node}
-use Rattle.qc_model.specs.declared.decision.Decision.{Decision}
-use Rattle.qc_model.specs.Instance.{InstanceView}
+use Rattle.qc_close.specs.Model.{Decision, InstanceView}
 use Rattle.qc_search.specs.Progress.{WritesNodes}
 use Rattle.qc_search.specs.Walk.{IsChild, WereMade, from_child}
 use Rattle.qc_search.proofs.DescentLemmas.{next_child_is, next_count, next_due}

@@ -1,9 +1,7 @@
 use Rattle.std.proofs.Common.{List, [], ◌∷◌, Ok, length, refl, ap, sym, subst, ◌∙◌}
 use Rattle.qc_close.specs.Crews.{IsCrewOf}
 use Rattle.qc_dist.specs.Node.{Node}
-use Rattle.qc_model.specs.declared.decision.Decision.{Decision}
-use Rattle.qc_model.specs.Instance.{InstanceView}
-use Rattle.qc_model.specs.Nodes.{IsInReach}
+use Rattle.qc_close.specs.Model.{Decision, InstanceView, IsInReach}
 use Rattle.qc_search.specs.Progress.{IsMet, WritesNodes}
 use Rattle.qc_search.specs.Walk.{WereMade, from_node}
 use Rattle.qc_search.proofs.DescentLemmas.{made_in_reach}

@@ -1,8 +1,6 @@
 use Rattle.std.proofs.Common.{◌∙◌, [], ap, arith, length, sym}
 use Rattle.std.proofs.lemmas.List.{length-map}
-use Rattle.qc_model.specs.declared.direction.Direction.TheVariants.{Up}
-use Rattle.qc_model.specs.Instance.{InstanceView}
-use Rattle.qc_model.specs.OneWay.{mirror_task}
+use Rattle.qc_close.specs.Model.{Up, InstanceView, mirror_task}
 use Rattle.qc_search.specs.Earned.{part_nodes}
 use Rattle.qc_search.proofs.TreeLemmas.{by_fault, down_cut, down_part, end_written, title_cut, up_cut, up_part}
 use Rattle.qc_search.proofs.tree.write_both.Goals as goal

@@ -1,6 +1,5 @@
 use Rattle.std.proofs.Common.{◌≡◌, ◌+◌, ◌*◌, ◌^◌, ◌≤◌, map, take, sum}
-use Rattle.qc_model.specs.declared.direction.Direction.TheVariants.{Up, Down}
-use Rattle.qc_model.specs.Closed.{bays_to, room}
+use Rattle.qc_close.specs.Model.{Up, Down, bays_to, room}
 use Rattle.qc_close.specs.Tried.{tried}
 use Rattle.qc_close.proofs.count.Count.all_rooms.Given as goal
 

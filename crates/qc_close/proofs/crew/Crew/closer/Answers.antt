@@ -1,8 +1,7 @@
 use Rattle.std.proofs.Common.{◌≡◌, ℕ, ◌≤◌, min, ap, List, Option, None, Some, length, ℤ, arith, of_z, subst, to_z, w32, rules}
 use Rattle.std.proofs.lemmas.Int.{ints}
 use Rattle.std.specs.Option.{option_map_or}
-use Rattle.qc_model.specs.Bays.{bays_up}
-use Rattle.qc_model.specs.Instance.{InstanceView}
+use Rattle.qc_close.specs.Model.{bays_up, InstanceView}
 use Rattle.qc_model.proofs.Bays.{bays}
 use Rattle.qc_close.specs.Bands.{IsFoundFrom, IsReach}
 use Rattle.qc_close.proofs.BandLemmas.{closer_step}

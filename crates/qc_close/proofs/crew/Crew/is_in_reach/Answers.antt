@@ -1,6 +1,5 @@
 use Rattle.std.proofs.Common.{◌≡◌, true, false, length, ap, sym, arith}
-use Rattle.qc_model.specs.Instance.{InstanceView}
-use Rattle.qc_model.specs.Nodes.{reaches}
+use Rattle.qc_close.specs.Model.{InstanceView, reaches}
 use Rattle.qc_dist.proofs.Ranges.{any_fails, any_passes}
 use Rattle.qc_close.proofs.crew.Crew.is_in_reach.Goals as goal
 

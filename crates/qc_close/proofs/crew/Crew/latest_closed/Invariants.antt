@@ -1,6 +1,5 @@
 use Rattle.std.proofs.Common.{◌≡◌, ◌+◌, ◌-◌, ◌*◌, ◌<◌, ◌≤◌, true, false}
-use Rattle.qc_model.specs.declared.limits.TheConstants.{MOST_START}
-use Rattle.qc_model.specs.Closed.{is_closed}
+use Rattle.qc_close.specs.Model.{MOST_START, is_closed}
 use Rattle.qc_close.proofs.crew.Crew.latest_closed.Given as goal
 
 abbrev pub invariant-halving : goal.invariant-halving

@@ -1,8 +1,6 @@
 use Rattle.std.proofs.lemmas.Grind.{common_steps}
 use Rattle.std.proofs.Common.{◌≡◌, ◌+◌, ◌*◌, Some, ap, sym, ◌∙◌, arith}
-use Rattle.qc_model.specs.Instance.{InstanceView}
-use Rattle.qc_model.specs.Work.{ticks_over}
-use Rattle.qc_model.specs.Packs.{pack}
+use Rattle.qc_close.specs.Model.{InstanceView, ticks_over, pack}
 use Rattle.qc_close.proofs.LoopLemmas.{least_steps}
 use Rattle.qc_close.proofs.SpanLemmas.{pack_found, pack_is, packed_few, packed_stacked}
 use Rattle.qc_close.proofs.crew.Crew.pack.Goals.{After-travel_over}

@@ -1,7 +1,6 @@
 use Rattle.std.proofs.Common.{length, ap, arith, ◌∙◌}
 use Rattle.std.proofs.lemmas.Int.{ints}
-use Rattle.qc_model.specs.declared.task.Task.{Task}
-use Rattle.qc_model.specs.Instance.{InstanceView, bay_of}
+use Rattle.qc_close.specs.Model.{Task, InstanceView, bay_of}
 use Rattle.qc_close.proofs.LoopLemmas.{near_of, on_ship}
 use Rattle.qc_close.proofs.crew.Crew.place.Goals as goal
 

@@ -1,6 +1,5 @@
 use Rattle.std.proofs.Common.{◌≡◌, ◌≤◌, ◌*◌, take}
-use Rattle.qc_model.specs.declared.limits.TheConstants.{MOST_WORK}
-use Rattle.qc_model.specs.Work.{ticks_over}
+use Rattle.qc_close.specs.Model.{MOST_WORK, ticks_over}
 use Rattle.qc_close.proofs.crew.Crew.ticks.Given as goal
 
 abbrev pub invariant-loop-task : goal.invariant-loop-task

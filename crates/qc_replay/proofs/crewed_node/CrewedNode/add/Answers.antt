@@ -2,7 +2,8 @@ use Rattle.std.proofs.Common.{◌∙◌, ap, refl, subst, sym}
 use Rattle.qc_dist.specs.Node.{Node}
 use Rattle.qc_replay.specs.Earliest.{HasEarly}
 use Rattle.qc_model.specs.declared.decision.Decision.TheVariants.{Assign}
-use Rattle.qc_replay.proofs.CrewFacts.{crew_at, crew_puts, opens, were_open_more, with}
+use Rattle.qc_close.proofs.DecidedCranes.{crew_at, crew_put}
+use Rattle.qc_replay.proofs.CrewFacts.{IsCrew, opens, were_open_more, with}
 use Rattle.qc_replay.proofs.crewed_node.CrewedNode.add.Goals as goal
 
 pub put-requires-clause-none : goal.put-requires-clause-none
@@ -10,7 +11,7 @@ put-requires-clause-none c =
     let node = c.self.inside.node in
     let one = opens node c.args.self.now c.args.decision (Assign c.in-Assign.task c.in-Assign.crane) c.self.view_is
     c.in-Assign.is c.requires in
-    crew_at node c.self.inside.crew c.self.invariant.crew c.in-Assign.task one.0 ∙ one.2
+    crew_at node.inst node.decisions c.self.inside.crew c.in-Assign.task c.self.invariant.crew one.0 ∙ one.2
 
 pub invariant_of-self : goal.invariant_of-self
 invariant_of-self c =
@@ -27,6 +28,7 @@ invariant_of-self c =
           subst (λ (n : Node). HasEarly n.inst.turn n.inst n.decisions c.begun_more.new.begun) (sym added)
           c.begun_more.ensures;
       crew =
-          crew_puts node c.self.inside.crew c.self.invariant.crew c.in-Assign.task c.in-Assign.crane c.put.new.self
-          c.add.new.self one.0 c.put.ensures (added ∙ ap (with node) c.in-Assign.is);
+          subst (IsCrew c.put.new.self) (sym (added ∙ ap (with node) c.in-Assign.is))
+          (crew_put node.inst node.decisions c.self.inside.crew c.put.new.self c.in-Assign.task c.in-Assign.crane
+          c.self.invariant.crew one.0 c.put.ensures);
     }

@@ -1,6 +1,5 @@
 use Rattle.std.proofs.Common.{◌∙◌, ap, subst, sym}
-use Rattle.qc_model.specs.declared.turn.Turn.{Turn}
-use Rattle.qc_model.specs.Assignments.{no_cranes}
+use Rattle.qc_close.specs.Model.{Turn, no_cranes}
 use Rattle.qc_dist.specs.Node.{Node}
 use Rattle.qc_replay.specs.Crewed.{WereOpen}
 use Rattle.qc_replay.specs.Earliest.{HasEarly}

@@ -1,6 +1,5 @@
 use Rattle.std.proofs.Common.{◌≡◌, ℕ, ◌<◌, ◌≤◌, List, IfSome, map, take}
-use Rattle.qc_model.specs.Nodes.{AreLeast}
-use Rattle.qc_model.specs.Numbers.{most_start}
+use Rattle.qc_close.specs.Model.{AreLeast, most_start}
 use Rattle.qc_replay.specs.Earliest.{start_in}
 use Rattle.qc_replay.proofs.EarlyFacts.{HasLeast}
 use Rattle.qc_model.proofs.Extremes.{least_option}

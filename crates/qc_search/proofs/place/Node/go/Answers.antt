@@ -1,7 +1,7 @@
 use Rattle.std.proofs.Common.{◌∷◌, ap, ◌∙◌}
-use Rattle.qc_model.specs.declared.decision.Decision.{Decision}
-use Rattle.qc_model.specs.declared.decision.Decision.TheVariants.{Assign, Order}
-use Rattle.qc_search.proofs.PlaceLemmas.{crew_none, crew_ordered, crew_put, fits_more, opened, placed}
+use Rattle.qc_close.specs.Model.{Decision, Assign, Order}
+use Rattle.qc_close.proofs.DecidedCranes.{crew_at, crew_ordered, crew_put}
+use Rattle.qc_search.proofs.PlaceLemmas.{fits_more, opened, placed}
 use Rattle.qc_search.proofs.place.Node.go.Goals as goal
 
 pub put-requires-clause-none : goal.put-requires-clause-none
@@ -9,7 +9,7 @@ put-requires-clause-none c =
     let node = c.self.inside.starts in
     let is_open = opened c.self.inside c.args.self.now c.args.decision (Assign c.in-Assign.task c.in-Assign.crane)
     c.self.view_is c.requires.open c.in-Assign.is in
-    crew_none node.inst node.decisions c.self.inside.crew c.in-Assign.task c.self.invariant.crew is_open.0 is_open.2
+    crew_at node.inst node.decisions c.self.inside.crew c.in-Assign.task c.self.invariant.crew is_open.0 ∙ is_open.2
 
 pub invariant_of-self : goal.invariant_of-self
 invariant_of-self c =

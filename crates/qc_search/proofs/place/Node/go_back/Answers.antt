@@ -1,11 +1,10 @@
 use Rattle.std.proofs.Common.{◌≡◌, ℕ, ◌-◌, List, ◌∷◌, length, Option, Some, refl, sym, ap, subst, ◌∙◌}
 use Rattle.qc_close.specs.Crews.{IsCrewOf}
 use Rattle.qc_dist.specs.Node.{newest}
-use Rattle.qc_model.specs.declared.decision.Decision.{Decision}
-use Rattle.qc_model.specs.declared.decision.Decision.TheVariants.{Assign}
-use Rattle.qc_model.specs.Nodes.{Fits}
+use Rattle.qc_close.specs.Model.{Decision, Assign, Fits}
 use Rattle.qc_starts.specs.Seen.{first_of}
-use Rattle.qc_search.proofs.PlaceLemmas.{crew_some, crew_taken, newest_older, placed}
+use Rattle.qc_close.proofs.DecidedCranes.{crew_some, crew_taken}
+use Rattle.qc_search.proofs.PlaceLemmas.{newest_older, placed}
 use Rattle.qc_search.proofs.place.Node.go_back.Goals as goal
 
 -- the decisions are the newest one and those before it

@@ -1,11 +1,7 @@
 use Rattle.std.proofs.Common.{List, sym, ap, subst, ◌∙◌}
 use Rattle.qc_close.specs.Crews.{CrewView, IsCrewOf}
-use Rattle.qc_model.specs.declared.decision.Decision.{Decision}
-use Rattle.qc_model.specs.declared.turn.Turn.{Turn}
-use Rattle.qc_model.specs.Assignments.{no_cranes}
-use Rattle.qc_model.specs.Instance.{InstanceView}
-use Rattle.qc_model.specs.Nodes.{Fits}
-use Rattle.qc_search.proofs.PlaceLemmas.{crew_root}
+use Rattle.qc_close.specs.Model.{Decision, Turn, no_cranes, InstanceView, Fits}
+use Rattle.qc_close.proofs.DecidedCranes.{crew_root}
 use Rattle.qc_search.proofs.place.Node.open.Goals as goal
 
 abbrev root_crew : InstanceView → CrewView

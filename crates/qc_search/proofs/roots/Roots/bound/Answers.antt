@@ -1,8 +1,6 @@
 use Rattle.std.proofs.Common.{ℕ, List, Option, subst, sym}
 use Rattle.qc_dist.specs.Node.{Node}
-use Rattle.qc_model.specs.declared.decision.Decision.{Decision}
-use Rattle.qc_model.specs.Closing.{IsWorkBound}
-use Rattle.qc_model.specs.Instance.{InstanceView}
+use Rattle.qc_close.specs.Model.{Decision, IsWorkBound, InstanceView}
 use Rattle.qc_num.specs.declared.bound.Bound.TheVariants.{Least}
 use Rattle.qc_search.specs.Roots.{IsTurned}
 use Rattle.qc_search.proofs.OutlookLemmas.{both_sooner, one_sooner}

@@ -1,10 +1,5 @@
 use Rattle.std.proofs.Common.{◌≤◌, ◌<◌, ℕ, length, subst}
-use Rattle.qc_model.specs.declared.direction.Direction.{Direction}
-use Rattle.qc_model.specs.Frames.{GoesBy}
-use Rattle.qc_model.specs.Instance.{InstanceView}
-use Rattle.qc_model.specs.Numbers.{most_start}
-use Rattle.qc_model.specs.Rules.{start_of}
-use Rattle.qc_model.specs.Seen.{seen}
+use Rattle.qc_close.specs.Model.{Direction, GoesBy, InstanceView, most_start, start_of, seen}
 use Rattle.qc_search.specs.Roots.{IsTurned}
 use Rattle.qc_search.proofs.roots.Roots.tighten.Goals as goal
 

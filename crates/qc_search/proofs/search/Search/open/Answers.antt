@@ -1,8 +1,6 @@
 use Rattle.std.proofs.Common.{length, ap, sym, subst, ◌∙◌, arith}
 use Rattle.std.proofs.lemmas.List.{length-replicate}
-use Rattle.qc_model.specs.declared.schedule.Slot.{Slot}
-use Rattle.qc_model.specs.Instance.{InstanceView}
-use Rattle.qc_model.specs.Rules.{no_slot}
+use Rattle.qc_close.specs.Model.{Slot, InstanceView, no_slot}
 use Rattle.qc_search.specs.declared.progress.Progress.{Progress}
 use Rattle.qc_search.specs.Progress.{IsBegun}
 use Rattle.qc_search.proofs.GivenLemmas.{begins_without}

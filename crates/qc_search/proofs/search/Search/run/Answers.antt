@@ -4,11 +4,11 @@ use Rattle.qc_model.specs.declared.schedule.Slot.{Slot}
 use Rattle.qc_search.specs.Progress.{known_best}
 use Rattle.qc_search.specs.Run.{IsCutOff, IsSearched, IsSound, SearchView}
 use Rattle.qc_search.proofs.NodesLemmas.{none_asked}
-use Rattle.qc_search.proofs.RunLemmas.{not_ok, told_of, told_with, went_cranes, went_searched, went_sound}
+use Rattle.qc_search.proofs.RunLemmas.{not_ok, done_of, done_with, went_cranes, went_searched, went_sound}
 use Rattle.qc_search.proofs.search.Search.run.Goals as goal
 
-pub told-requires : goal.told-requires
-told-requires g c = λ end e.
+pub done_of-requires : goal.done_of-requires
+done_of-requires g c = λ end e.
     let home = c.self.inside.roots in
     let old = c.self.inside.progress in
     let w = c.in_ok-write.ensures (known_best home old) c.self.invariant.progress in
@@ -25,10 +25,10 @@ returns-clause-searched g c =
     let after = (g.K.Sink.view c.write.new.sink).written in
     let w = c.in_ok-write.ensures (known_best home old) c.self.invariant.progress in
     let count = rw c.instance.ensures.same at c.crane_count-cranes.ensures.count in
-    let told : c.told.result ≡ told_of home old.incumbent_end now =
-    c.told.ensures ∙ ap (λ (n : ℕ). told_with n old.incumbent_end now) count in
-    subst (IsSearched c.args.self before after) (sym told)
-    (subst (λ (s : SearchView). IsSearched s before after (told_of home old.incumbent_end now)) c.self.view_is
+    let done : c.done_of.result ≡ done_of home old.incumbent_end now =
+    c.done_of.ensures ∙ ap (λ (n : ℕ). done_with n old.incumbent_end now) count in
+    subst (IsSearched c.args.self before after) (sym done)
+    (subst (λ (s : SearchView). IsSearched s before after (done_of home old.incumbent_end now)) c.self.view_is
     (went_searched home c.instance.ensures.valid old now c.self.invariant w))
 
 pub returns-clause-sound : goal.returns-clause-sound
@@ -38,10 +38,10 @@ returns-clause-sound g c =
     let now = c.write.new.progress in
     let w = c.in_ok-write.ensures (known_best home old) c.self.invariant.progress in
     let count = rw c.instance.ensures.same at c.crane_count-cranes.ensures.count in
-    let told : c.told.result ≡ told_of home old.incumbent_end now =
-    c.told.ensures ∙ ap (λ (n : ℕ). told_with n old.incumbent_end now) count in
-    subst (IsSound c.args.self) (sym told)
-    (subst (λ (s : SearchView). IsSound s (told_of home old.incumbent_end now)) c.self.view_is
+    let done : c.done_of.result ≡ done_of home old.incumbent_end now =
+    c.done_of.ensures ∙ ap (λ (n : ℕ). done_with n old.incumbent_end now) count in
+    subst (IsSound c.args.self) (sym done)
+    (subst (λ (s : SearchView). IsSound s (done_of home old.incumbent_end now)) c.self.view_is
     (went_sound home c.instance.ensures.valid old now c.self.invariant w))
 
 pub returns-in_err-write-clause-cut : goal.returns-in_err-write-clause-cut

@@ -1,6 +1,6 @@
 use Rattle.std.proofs.Common.{◌≡◌, length, take}
 use Rattle.qc_replay.specs.Walk.{from_file}
-use Rattle.qc_replay.proofs.leaf.tasks_of.Given as goal
+use Rattle.qc_replay.proofs.leaf.counted_from_0.Given as goal
 
 abbrev pub invariant-loop-index : goal.invariant-loop-index
 invariant-loop-index l = record {
