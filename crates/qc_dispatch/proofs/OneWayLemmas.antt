@@ -1,5 +1,5 @@
 -- A log is followed in one way only: where all lines are followed none has a fault.
-use Rattle.std.proofs.Common.{◌≡◌, ℕ, ◌+◌, inl, inr, ◌++◌, List, [], ◌∷◌, map, slice_set, Result, Ok, Err, refl, ap, sym, subst, ◌∙◌, arith}
+use Rattle.std.proofs.Common.{◌≡◌, ℕ, ◌+◌, inl, inr, ◌++◌, List, [], ◌∷◌, map, slice_set, refl, ap, sym, subst, ◌∙◌}
 use Rattle.std.proofs.lemmas.Bool.{cases_order}
 use Rattle.qc_dispatch.specs.declared.event.Event.{Event}
 use Rattle.qc_dispatch.specs.declared.fault.DispatchFault.{DispatchFault}
