@@ -10,7 +10,7 @@ use Rattle.qc_dispatch.specs.Calls.{opening}
 use Rattle.qc_dispatch.specs.Course.{Course, IsOver, IsQuiet, MayStart, end_at, end_in, is_running, is_waiting, left, running, stage_of, start_at, start_in, started}
 use Rattle.qc_dispatch.specs.Kept.{IsCourse}
 use Rattle.qc_dispatch.specs.Order.{Leads, free_of, gap}
-use Rattle.qc_dispatch.specs.Promises.{GoesOn, behind, greatest_gap, last, last_end, later, latest, over_tasks}
+use Rattle.qc_dispatch.specs.Promises.{GoesOn, IsSpan, behind, greatest_gap, last, last_end, later, latest, over_tasks}
 use Rattle.qc_dispatch.proofs.Counts.{least_of, none_in, some_passes}
 use Rattle.qc_dispatch.proofs.OrderLemmas.{before_leads, one_leads}
 use Rattle.qc_model.proofs.Extremes.{le_greatest}
@@ -29,9 +29,16 @@ if_then : (o : Option ℕ) (P Q : ℕ → Type 0) → ((x : ℕ) → o ≡ Some 
 if_then None P Q step h = tt
 if_then (Some x) P Q step h = step x refl h
 
-and_of : (o : Option ℕ) (P : ℕ → Type 0) → IsSome o → IfSome o P → IsSomeAnd o P
+pub and_of : (o : Option ℕ) (P : ℕ → Type 0) → IsSome o → IfSome o P → IsSomeAnd o P
 and_of None P some h = absurd (cc some)
 and_of (Some x) P some h = h
+
+-- ---- spans
+
+span_later : (s : Stage) (m n : ℕ) → m ≤ n → IsSpan m s → IsSpan n s
+span_later Waiting m n later span = tt
+span_later (Running start) m n later span = omega (arith, later, span)
+span_later (Ended start end) m n later span = (span.0, omega (arith, later, span.1))
 
 -- ---- the last end
 
@@ -145,15 +152,17 @@ module _ (c : Course) (valid : Valid c.inst) (feasible : Feasible c.inst c.plan)
         | inr late ↦ absurd (quiet j (may_later (latest c) c.clock j late may))
       ]
 
-  pub keeps_of : ((j : ℕ) → IfSome (start_at c j) (λ start. free_of c.inst c.plan j ≤ start))
+  pub keeps_of : ((j : ℕ) → IsSpan c.clock (stage_of c j))
+      → ((j : ℕ) → IfSome (start_at c j) (λ start. free_of c.inst c.plan j ≤ start))
       → ((i j : ℕ) → Leads c.inst c.plan i j → IfSome (start_at c j) (IsOver c i (gap c.inst c.plan i j)))
       → IsCourse c
-  keeps_of starts order = record {
+  keeps_of spans starts order = record {
     valid = valid;
     feasible = feasible;
     stages = same;
     keeps = record {
       stages = same;
+      spans = spans;
       starts = starts;
       order = order;
       before = λ i j is. if_then (start_at c j) (IsOver c i (gap c.inst c.plan i j)) (IsOver c i 0)
@@ -182,7 +191,7 @@ pub opens : (inst : InstanceView) (plan : List Slot) → Valid inst → Feasible
 opens inst plan valid feasible =
     let waits = λ (j : ℕ). none_started (length inst.tasks) j in
     keeps_of (opening inst plan) valid feasible (length-replicate (length inst.tasks) Waiting)
-    (λ j. rw (waits j) tt) (λ i j leads. rw (waits j) tt)
+    (λ j. rw (waits j) tt) (λ j. rw (waits j) tt) (λ i j leads. rw (waits j) tt)
 
 -- ---- a start
 
@@ -191,9 +200,9 @@ module _ (c : Course) (is : IsCourse c) where
   n = length c.inst.tasks
 
   -- now is later
-  pub goes_later : (to : ℕ) → IsCourse (record c { clock = to })
-  goes_later to = keeps_of (record c { clock = to }) is.valid is.feasible is.stages is.keeps.starts
-      is.keeps.order
+  pub goes_later : (to : ℕ) → c.clock ≤ to → IsCourse (record c { clock = to })
+  goes_later to from = keeps_of (record c { clock = to }) is.valid is.feasible is.stages
+      (λ j. span_later (stage_of c j) c.clock to from (is.keeps.spans j)) is.keeps.starts is.keeps.order
 
   pub end_started : (task m : ℕ) → MayStart c m task → (i : ℕ) → end_at (started c m task) i ≡ end_at c i
   end_started task m may i = elim (stage_set c.stages task i (Running m) (omega (arith, may.task, is.stages))) [
@@ -201,13 +210,17 @@ module _ (c : Course) (is : IsCourse c) where
     | inr other ↦ ap end_in other.1
   ]
 
-  pub goes_started : (task m : ℕ) → MayStart c m task → IsCourse (started c m task)
-  goes_started task m may =
+  pub goes_started : (task m : ℕ) → c.clock ≤ m → MayStart c m task → IsCourse (started c m task)
+  goes_started task m from may =
       let new = started c m task in
       let inside : task < length c.stages = omega (arith, may.task, is.stages) in
       let over = λ (i t s : ℕ) (h : IsOver c i t s). subst (λ (o : Option ℕ). IsSomeAnd o (λ end. end + t ≤ s))
       (sym (end_started task m may i)) h in
       keeps_of new is.valid is.feasible (length-set c.stages task (Running m) ∙ is.stages)
+      (λ j. elim (stage_set c.stages task j (Running m) inside) [
+        | inl at ↦ rw (at.1) (omega arith)
+        | inr other ↦ rw (other.1) (span_later (stage_of c j) c.clock m from (is.keeps.spans j))
+      ])
       (λ j. elim (stage_set c.stages task j (Running m) inside) [
         | inl at ↦ rw (at.1, ← at.0) may.free
         | inr other ↦ rw (other.1) (is.keeps.starts j)
@@ -245,6 +258,10 @@ module _ (c : Course) (is : IsCourse c) where
     pub goes_ended : IsCourse ended
     goes_ended =
         keeps_of ended is.valid is.feasible (length-set c.stages task (Ended start c.clock) ∙ is.stages)
+        (λ j. elim (stage_set c.stages task j (Ended start c.clock) (omega (arith, inside, is.stages))) [
+          | inl at ↦ rw (at.1) (subst (IsSpan c.clock) ran (is.keeps.spans task), omega arith)
+          | inr other ↦ rw (other.1) (is.keeps.spans j)
+        ])
         (λ j. subst (λ (o : Option ℕ). IfSome o (λ s. free_of c.inst c.plan j ≤ s)) (sym (start_ended j))
         (is.keeps.starts j))
         (λ i j leads. subst (λ (o : Option ℕ). IfSome o (IsOver ended i (gap c.inst c.plan i j)))

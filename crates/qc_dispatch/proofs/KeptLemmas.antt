@@ -89,23 +89,23 @@ module _ (inst copied : InstanceView) (plan slots : List Slot) (stages : List St
 
 module _ (c : Course) (marks : List Bool) (waits : List Wait) (kept : AreKept c marks waits) where
   -- after a start
-  pub kept_started : (task m : ℕ) → MayStart c m task → m < past_moments → AreKept (started c m task) marks waits
-  kept_started task m may early = record {
-    course = goes_started c kept.course task m may;
+  pub kept_started : (task m : ℕ) → c.clock ≤ m → MayStart c m task → m < past_moments → AreKept (started c m task) marks waits
+  kept_started task m from may early = record {
+    course = goes_started c kept.course task m from may;
     early = early;
     marks_are = kept.marks_are;
     waits_are = waits_same c.inst c.plan marks (end_at c) (end_at (started c m task)) (end_started c kept.course task m may) waits kept.waits_are;
   }
 
   -- later
-  pub kept_later : (to : ℕ) → to < past_moments → AreKept (record c { clock = to }) marks waits
-  kept_later to early = record { course = goes_later c kept.course to; early = early; marks_are = kept.marks_are; waits_are = kept.waits_are }
+  pub kept_later : (to : ℕ) → c.clock ≤ to → to < past_moments → AreKept (record c { clock = to }) marks waits
+  kept_later to from early = record { course = goes_later c kept.course to from; early = early; marks_are = kept.marks_are; waits_are = kept.waits_are }
 
   -- where nothing may start until then, and nothing runs, the next start comes by itself
   pub goes_on_later : (to : ℕ) → c.clock ≤ to → ((m j : ℕ) → c.clock ≤ m → m ≤ to → ¬ MayStart c m j)
       → 0 < left (record c { clock = to }) → running (record c { clock = to }) ≡ 0 → GoesOn (record c { clock = to })
   goes_on_later to from none some stopped =
-      (goes_later c kept.course to).keeps.goes_on (λ j may. none to j from (omega arith) (record { task = may.task; waits = may.waits; free = may.free; clear = may.clear })) some stopped
+      (goes_later c kept.course to from).keeps.goes_on (λ j may. none to j from (omega arith) (record { task = may.task; waits = may.waits; free = may.free; clear = may.clear })) some stopped
 
   -- after an end
   module _ (task start : ℕ) (inside : task < length c.inst.tasks) (ran : stage_of c task ≡ Running start) where

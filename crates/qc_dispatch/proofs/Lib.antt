@@ -10,4 +10,3 @@ pub mod KeptLemmas
 pub mod LogLemmas
 pub mod OneWayLemmas
 pub mod WorkedLemmas
-pub mod WorkedValid

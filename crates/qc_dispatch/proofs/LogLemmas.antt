@@ -1,10 +1,11 @@
 -- What comes of a log, one event and one line more.
-use Rattle.std.proofs.Common.{◌≡◌, ℕ, ◌+◌, ◌*◌, ◌<◌, ◌≤◌, inr, ◌++◌, List, [], ◌∷◌, length, map, slice_set, ap, sym, subst, ◌∙◌, Ok, append_assoc, arith}
+use Rattle.std.proofs.Common.{◌≡◌, ℕ, ◌+◌, ◌*◌, ◌<◌, ◌≤◌, inl, inr, ◌++◌, List, [], ◌∷◌, length, map, slice_set, ap, sym, subst, ◌∙◌, Result, Ok, Err, append_assoc, arith}
 use Rattle.std.proofs.lemmas.List.{length-set}
 use Rattle.std.proofs.lemmas.List.Sums.{sum_by-set}
 use Rattle.qc_dispatch.specs.declared.event.Event.{Event}
 use Rattle.qc_dispatch.specs.declared.fault.DispatchFault.{DispatchFault}
 use Rattle.qc_dispatch.specs.declared.grant.Grant.{Grant}
+use Rattle.qc_dispatch.specs.declared.fault.DispatchKind.{DispatchKind}
 use Rattle.qc_dispatch.specs.declared.fault.DispatchKind.TheVariants as kind
 use Rattle.qc_dispatch.specs.declared.report.Report.{Report}
 use Rattle.qc_dispatch.specs.declared.report.Report.TheVariants.{Passed, Done}
@@ -12,7 +13,7 @@ use Rattle.qc_dispatch.specs.declared.stage.Stage.{Stage}
 use Rattle.qc_dispatch.specs.declared.stage.Stage.TheVariants.{Waiting, Running}
 use Rattle.qc_dispatch.specs.Course.{Course, IsGranted, IsPassed, IsQuiet, is_waiting, left}
 use Rattle.qc_dispatch.specs.Events.{started_event}
-use Rattle.qc_dispatch.specs.Following.{IsIdle, most_passed}
+use Rattle.qc_dispatch.specs.Following.{IsGood, IsIdle, RunsOut, most_passed}
 use Rattle.qc_dispatch.specs.Journal.{HasFault, HasFirstFault, Journal, TakesAll, TakesLine, WentOn}
 use Rattle.qc_dispatch.specs.Log.{most_lines, report_in}
 use Rattle.qc_dispatch.proofs.Counts.{tally}
@@ -63,6 +64,22 @@ pub done_idle : (old : Journal) (before : ℕ) (line : List ℕ) (report : Repor
 done_idle old before line (Passed ticks) few read idle = absurd idle
 done_idle old before line (Done task) few read idle = (few, record { task = task; read = read; idle = idle })
 
+pub same_report : (read : Result Report DispatchKind) (r s : Report) → read ≡ Ok r → read ≡ Ok s → r ≡ s
+same_report read r s one other = cc
+
+ok_or_err : (r : Result Report DispatchKind) (report : Report) (why : DispatchKind) → r ≡ Ok report → r ≡ Err why → ⊥
+ok_or_err r report why ok err = cc
+
+-- a report that can be followed is a good line
+pub good_line : (old : Journal) (before : ℕ) (line : List ℕ) (report : Report) → before < most_lines
+    → report_in old.course.inst line ≡ Ok report → ¬ IsIdle old report → IsGood old before line
+good_line old before line report few read runs kind.TooMany fault = omega (arith, few, fault)
+good_line old before line report few read runs kind.NotRunning fault =
+    let e = same_report (report_in old.course.inst line) (Done fault.1.task) report fault.1.read read in
+    runs (subst (IsIdle old) e fault.1.idle)
+good_line old before line report few read runs kind.Line fault = ok_or_err (report_in old.course.inst line) report kind.Line read fault.1
+good_line old before line report few read runs kind.UnknownTask fault = ok_or_err (report_in old.course.inst line) report kind.UnknownTask read fault.1
+
 -- ---- lines
 
 -- what the lines from here on come to is what all lines come to
@@ -72,6 +89,7 @@ pub record AreOnWay (start : Journal) (all : List (List ℕ)) (here : Journal) (
   pub few : before ≤ most_lines
   pub same : (new : Journal) → TakesAll here before rest new → TakesAll start 0 all new
   pub faults : (fault : DispatchFault) → HasFirstFault here before rest fault → HasFirstFault start 0 all fault
+  pub runs_out : RunsOut here before rest → RunsOut start 0 all
 
 pub first_line : (start : Journal) (all : List (List ℕ)) → IsQuiet start.course → start.course.clock ≡ 0 → AreOnWay start all start 0 all
 first_line start all quiet early = record {
@@ -80,6 +98,7 @@ first_line start all quiet early = record {
   few = omega arith;
   same = λ new takes. takes;
   faults = λ fault has. has;
+  runs_out = λ out. out;
 }
 
 pub one_line : (start : Journal) (all : List (List ℕ)) (here : Journal) (before : ℕ) (line : List ℕ) (lines rest : List (List ℕ)) (next : Journal)
@@ -91,4 +110,11 @@ one_line start all here before line lines rest next e way takes quiet early = re
   few = omega (arith, takes.few);
   same = λ new more. way.same new (subst (λ (ls : List (List ℕ)). TakesAll here before ls new) (sym e) (next, takes, more));
   faults = λ fault has. way.faults fault (subst (λ (ls : List (List ℕ)). HasFirstFault here before ls fault) (sym e) (inr (next, takes, has)));
+  runs_out = λ out. way.runs_out (subst (λ (ls : List (List ℕ)). RunsOut here before ls) (sym e) (inr (next, takes, out)));
 }
+
+-- memory runs out at this line
+pub out_here : (start : Journal) (all : List (List ℕ)) (here : Journal) (before : ℕ) (line : List ℕ) (lines rest : List (List ℕ))
+    → lines ≡ line ∷ rest → AreOnWay start all here before lines → IsGood here before line → RunsOut start 0 all
+out_here start all here before line lines rest e way good =
+    way.runs_out (subst (λ (ls : List (List ℕ)). RunsOut here before ls) (sym e) (inl good))

@@ -1,10 +1,9 @@
 -- A log is followed in one way only: where all lines are followed none has a fault.
-use Rattle.std.proofs.Common.{◌≡◌, ℕ, ◌+◌, inl, inr, ◌++◌, List, [], ◌∷◌, map, slice_set, Result, Ok, Err, refl, ap, sym, subst, ◌∙◌, arith}
+use Rattle.std.proofs.Common.{◌≡◌, ℕ, ◌+◌, inl, inr, ◌++◌, List, [], ◌∷◌, map, slice_set, refl, ap, sym, subst, ◌∙◌}
 use Rattle.std.proofs.lemmas.Bool.{cases_order}
 use Rattle.qc_dispatch.specs.declared.event.Event.{Event}
 use Rattle.qc_dispatch.specs.declared.fault.DispatchFault.{DispatchFault}
 use Rattle.qc_dispatch.specs.declared.fault.DispatchKind.{DispatchKind}
-use Rattle.qc_dispatch.specs.declared.fault.DispatchKind.TheVariants as kind
 use Rattle.qc_dispatch.specs.declared.grant.Grant.{Grant}
 use Rattle.qc_dispatch.specs.declared.report.Report.{Report}
 use Rattle.qc_dispatch.specs.declared.report.Report.TheVariants.{Passed, Done}
@@ -12,8 +11,10 @@ use Rattle.qc_dispatch.specs.declared.stage.Stage.TheVariants.{Running, Ended}
 use Rattle.qc_dispatch.specs.Course.{Course, IsEnded, IsGranted, MayStart, started}
 use Rattle.qc_dispatch.specs.Events.{finished_event, started_event}
 use Rattle.qc_dispatch.specs.Journal.{Follows, Goes, HasFault, HasFirstFault, IsFaulty, IsFollowed, Journal, TakesAll, TakesLine, TookEnd, WentOn, blank}
-use Rattle.qc_lines.specs.Lines.{lines_of}
+use Rattle.qc_dispatch.specs.Following.{IsIdle}
 use Rattle.qc_dispatch.specs.Log.{report_in}
+use Rattle.qc_dispatch.proofs.LogLemmas.{good_line, same_report}
+use Rattle.qc_lines.specs.Lines.{lines_of}
 use Rattle.qc_model.specs.declared.schedule.Slot.{Slot}
 use Rattle.qc_model.specs.Instance.{InstanceView}
 use Rattle.qc_model.specs.Rules.{crane_of}
@@ -84,25 +85,18 @@ follows_one : (old a b : Journal) (report : Report) → Follows old report a →
 follows_one old a b (Passed ticks) p q = went_one old a b (old.course.clock + ticks) p q
 follows_one old a b (Done task) p q = took_one old a b task p q
 
-same_report : (read : Result Report DispatchKind) (r s : Report) → read ≡ Ok r → read ≡ Ok s → r ≡ s
-same_report read r s one other = cc
-
 takes_one : (old a b : Journal) (before : ℕ) (line : List ℕ) → TakesLine old before line a → TakesLine old before line b → a ≡ b
 takes_one old a b before line p q =
     let e = same_report (report_in old.course.inst line) p.report q.report p.read q.read in
     follows_one old a b q.report (subst (λ (r : Report). Follows old r a) e p.follows) q.follows
 
-ok_or_err : (r : Result Report DispatchKind) (report : Report) (why : DispatchKind) → r ≡ Ok report → r ≡ Err why → ⊥
-ok_or_err r report why ok err = cc
+follows_not_idle : (old a : Journal) (report : Report) → Follows old report a → ¬ IsIdle old report
+follows_not_idle old a (Passed ticks) went idle = idle
+follows_not_idle old a (Done task) took idle = idle took.ended.start took.ended.ran
 
 no_fault : (old a : Journal) (before : ℕ) (line : List ℕ) (why : DispatchKind) → TakesLine old before line a → HasFault old before line why → ⊥
-no_fault old a before line kind.TooMany takes fault = omega (arith, takes.few, fault)
-no_fault old a before line kind.NotRunning takes fault =
-    let e = same_report (report_in old.course.inst line) takes.report (Done fault.1.task) takes.read fault.1.read in
-    let took = subst (λ (r : Report). Follows old r a) e takes.follows in
-    fault.1.idle took.ended.start took.ended.ran
-no_fault old a before line kind.Line takes fault = ok_or_err (report_in old.course.inst line) takes.report kind.Line takes.read fault.1
-no_fault old a before line kind.UnknownTask takes fault = ok_or_err (report_in old.course.inst line) takes.report kind.UnknownTask takes.read fault.1
+no_fault old a before line why takes fault =
+    good_line old before line takes.report takes.few takes.read (follows_not_idle old a takes.report takes.follows) why fault
 
 all_or_fault : (lines : List (List ℕ)) (old a : Journal) (before : ℕ) (fault : DispatchFault) → TakesAll old before lines a
     → HasFirstFault old before lines fault → ⊥

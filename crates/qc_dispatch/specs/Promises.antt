@@ -1,7 +1,9 @@
 -- public: what is promised of the course of the work, whatever is reported and when.
-use Rattle.std.specs.Prelude.{◌≡◌, ◌≢◌, ℕ, ◌+◌, ◌<◌, ◌≤◌, ◌⊎◌, max, map, length, List, [], ◌∷◌, Option, None, Some, IfSome, IsSome, IsSomeAnd}
+use Rattle.std.specs.Prelude.{◌≡◌, ◌≢◌, ℕ, ◌+◌, ◌<◌, ◌≤◌, ◌⊎◌, max, map, length, List, [], ◌∷◌, Option, None, Some, IfSome, IsSome, IsSomeAnd, ⊤}
 use Rattle.std.specs.List.{range_with_len}
-use Rattle.qc_dispatch.specs.Course.{Course, IsOver, IsQuiet, MayStart, end_at, left, running, start_at}
+use Rattle.qc_dispatch.specs.declared.stage.Stage.{Stage}
+use Rattle.qc_dispatch.specs.declared.stage.Stage.TheVariants.{Waiting, Running, Ended}
+use Rattle.qc_dispatch.specs.Course.{Course, IsOver, IsQuiet, MayStart, end_at, left, running, stage_of, start_at}
 use Rattle.qc_dispatch.specs.Order.{AreTied, Leads, free_of, gap}
 use Rattle.qc_model.specs.Instance.{IsBefore}
 use Rattle.qc_model.specs.Nodes.{greatest}
@@ -49,10 +51,18 @@ pub record GoesOn (c : Course) : Type 0 where
   pub task : ℕ
   pub may : MayStart c (latest c) task
 
+-- by this moment: a start isn't later, nor an end, which isn't before its start
+abbrev pub IsSpan : ℕ → Stage → Type 0
+IsSpan now Waiting = ⊤
+IsSpan now (Running start) = start ≤ now
+IsSpan now (Ended start end) = (start ≤ end) × (end ≤ now)
+
 -- the rules of a feasible plan, with the lengths that tasks really take
 pub record Keeps (c : Course) : Type 0 where
   -- each task has a stage
   pub stages : length c.stages ≡ length c.inst.tasks
+  -- no task ends before it starts, and none starts or ends later than now
+  pub spans : (j : ℕ) → IsSpan c.clock (stage_of c j)
   -- a task starts once its crane can be there and all berths are clear
   pub starts : (j : ℕ) → IfSome (start_at c j) (λ start. free_of c.inst c.plan j ≤ start)
   -- it starts once all that lead it have ended, by the gap at the least

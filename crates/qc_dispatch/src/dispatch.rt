@@ -205,6 +205,7 @@ impl Dispatch {
     pub fn now(&self) -> Tick
         ensures now { result ≡ self.now.clock }
         ensures early { result < past_moments }
+        ensures plan { Valid self.now.inst × Feasible self.now.inst self.now.plan }
         ensures keeps { Keeps self.now }
     {
         self.clock

@@ -2,6 +2,7 @@
 
 ghost use Rattle.std.specs.Prelude.{◌≡◌, ◌+◌, ◌*◌, ◌<◌, ◌≤◌, IfOk};
 ghost use Rattle.qc_lines.specs.Lines.{lines_of};
+ghost use Rattle.qc_model.specs.Instance.{Valid};
 ghost use Rattle.qc_model.specs.Rules.{Feasible};
 ghost use Rattle.qc_dispatch.specs.declared.report.Report.TheVariants.{Passed, Done};
 ghost use Rattle.qc_dispatch.specs.Course.{IsQuiet, past_moments};
@@ -186,6 +187,7 @@ pub fn follow_log(
 ) -> Result<Followed, DispatchError>
     requires { Feasible inst.now plan.now }
     ensures following { IsFollowing inst.now plan.now text.now result }
+    ensures plan { IfOk result (λ f. Valid f.dispatch.inst × Feasible f.dispatch.inst f.dispatch.plan) }
     ensures keeps { IfOk result (λ f. Keeps f.dispatch) }
 {
     let mut followed = begin(alloc, inst, plan)?;

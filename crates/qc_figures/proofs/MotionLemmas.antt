@@ -39,7 +39,7 @@ pub record IsMotion (inst : InstanceView) (sched : List Slot) (way : Option Dire
 pub motion_of : (inst : InstanceView) (sched : List Slot) (way : Option Direction) → Valid inst → Feasible inst sched
     → IsWay inst sched way → IsMotion inst sched way
 motion_of inst sched None valid feasible is =
-    let safe = free_safe inst sched valid feasible 2 (omega arith) in
+    let safe = free_safe inst sched valid.cranes feasible 2 (omega arith) in
     record { somewhere = safe.somewhere; at_task = safe.at_task }
 motion_of inst sched (Some way) valid feasible is =
     let safe = safe_of inst sched way valid (goes_of inst sched way is) 1 (omega arith) in

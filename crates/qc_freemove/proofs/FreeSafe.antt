@@ -1,7 +1,7 @@
 -- Every feasible schedule moves safely.
 use Rattle.std.proofs.Common.{◌≡◌, ℕ, ◌<◌, ℤ, List, length, refl, ap}
 use Rattle.qc_model.specs.declared.schedule.Slot.{Slot}
-use Rattle.qc_model.specs.Instance.{InstanceView, Valid}
+use Rattle.qc_model.specs.Instance.{HasValidCranes, InstanceView}
 use Rattle.qc_model.specs.Motion.{IsFloor, scaled}
 use Rattle.qc_model.specs.Rules.{Feasible}
 use Rattle.qc_model.proofs.Levels.{berths_of}
@@ -32,10 +32,10 @@ module _ (inst : InstanceView) (sched : List Slot) (d : ℕ) where
       term_of _ (of_berth v below) = (berth v below, refl)
       term_of _ (of_floor y g) = (floor, ap (scaled inst d) (floor_unique inst sched k y x g f))
 
-  safe_by : Valid inst → Feasible inst sched → IsFreeSafeBy inst sched d
-  safe_by valid feasible =
+  safe_by : HasValidCranes inst → Feasible inst sched → IsFreeSafeBy inst sched d
+  safe_by cranes feasible =
       let stand = stand_safely inst sched d off (free_visits inst sched feasible d) feasible
-      (berths_of inst sched feasible valid d) (λ k m. FreeLowPlace inst sched k m d) low in
+      (berths_of inst sched feasible cranes d) (λ k m. FreeLowPlace inst sched k m d) low in
       record {
         somewhere = λ k m low _. stand.somewhere k m low;
         margin = λ v w m p q lower high _. stand.margin v w m p q lower high;
@@ -52,6 +52,6 @@ free_place_exists inst sched k m d is_crane =
     greatest_exists inst sched k bottom.0 d (off inst sched d) m (FreeLowPlace inst sched k m d)
     (low inst sched d k m bottom.0 bottom.1)
 
-pub free_safe : (inst : InstanceView) (sched : List Slot) → Valid inst → Feasible inst sched
+pub free_safe : (inst : InstanceView) (sched : List Slot) → HasValidCranes inst → Feasible inst sched
     → IsFreeSafe inst sched
-free_safe inst sched valid feasible d _ = safe_by inst sched d valid feasible
+free_safe inst sched cranes feasible d _ = safe_by inst sched d cranes feasible

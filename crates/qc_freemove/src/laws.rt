@@ -2,16 +2,16 @@
 
 ghost use Rattle.std.specs.Prelude.{◌<◌, ℕ, List, length};
 ghost use Rattle.qc_model.specs.declared.schedule.Slot.{Slot};
-ghost use Rattle.qc_model.specs.Instance.{InstanceView, Valid};
+ghost use Rattle.qc_model.specs.Instance.{HasValidCranes, InstanceView, Valid};
 ghost use Rattle.qc_model.specs.Rules.{Feasible};
 ghost use Rattle.qc_freemove.specs.declared.track.HalfPoint.{HalfPoint};
 ghost use Rattle.qc_freemove.specs.FreeMotion.{IsFreeSafe};
 ghost use Rattle.qc_freemove.specs.HalfLines.{MovesBetween};
 ghost use Rattle.qc_freemove.specs.HalfPoints.{AreHalfPoints};
 
-/// Every feasible schedule moves safely, fractions of a tick included.
+/// Every feasible schedule moves safely, fractions of a tick included, however long or short its tasks are.
 fn feasible_schedules_are_safe()
-    ensures { (inst : InstanceView) (sched : List Slot) → Valid inst → Feasible inst sched
+    ensures { (inst : InstanceView) (sched : List Slot) → HasValidCranes inst → Feasible inst sched
         → IsFreeSafe inst sched }
 {}
 

@@ -29,7 +29,7 @@ module _ (inst : InstanceView) (sched : List Slot) (valid : Valid inst) (f : Fea
   end = ends inst sched
 
   safe : IsFreeSafeBy inst sched 1
-  safe = free_safe inst sched valid f 1 (omega arith)
+  safe = free_safe inst sched valid.cranes f 1 (omega arith)
 
   pub starts_within : (j : ℕ) → j < count → (start_of sched j ≤ end) × (end_of inst sched j ≤ end)
   starts_within j low = let e = ends_in inst sched f j low in (omega (arith, e), omega (arith, e))

@@ -1,8 +1,15 @@
 -- What the command comes to at the log, behind the steps that read the plan.
 use Rattle.std.proofs.Common.{◌≡◌, List, ℕ, Option, Result, Ok, Err, IfErr, IfOk, IsSome, refl, subst, inl, inr, ◌∙◌, arith}
 use Rattle.qc_dispatch.specs.declared.fault.DispatchFault.{DispatchFault}
-use Rattle.qc_dispatch.specs.Journal.{IsFaulty}
+use Rattle.qc_dispatch.specs.Following.{journal_of}
+use Rattle.qc_dispatch.specs.Journal.{IsFaulty, IsFollowed}
+use Rattle.qc_dispatch.specs.Promises.{Keeps}
+use Rattle.qc_dispatch.specs.Worked.{with_tasks}
+use Rattle.qc_dispatch.proofs.WorkedLemmas.{worked, worked_taken}
+use Rattle.qc_freemove.proofs.FreeSafe.{free_safe}
 use Rattle.qc_io.specs.Outside.{Files, View}
+use Rattle.qc_model.specs.declared.task.Task.{Task}
+use Rattle.qc_model.specs.Instance.{HasValidCranes, InstanceView, Valid}
 use Rattle.qc_model.specs.Rules.{Feasible}
 use Rattle.qc_run.specs.declared.inputs.Input.TheVariants as input
 use Rattle.qc_run.specs.declared.reading.Job.{Job}
@@ -19,6 +26,28 @@ use Rattle.qc_log_commands.specs.declared.dispatching.Dispatching.{Dispatching}
 use Rattle.qc_log_commands.specs.declared.dispatching.Dispatching.TheVariants as dispatching
 use Rattle.qc_log_commands.specs.DispatchAccount.{IsDispatchAccount, IsDispatching, StopsDispatch}
 use Rattle.qc_log_commands.specs.DispatchTold.{TellsCourse}
+
+-- the cranes don't change with the lengths of tasks
+cranes_kept : (inst : InstanceView) (tasks : List Task) → HasValidCranes inst → HasValidCranes (with_tasks inst tasks)
+cranes_kept inst tasks cranes =
+    record { count = cranes.count; ready = cranes.ready; reach = cranes.reach; names = cranes.names; order = cranes.order }
+
+-- what is told of a log that was followed
+pub course_told : (text : List ℕ) (told : Dispatched) → Feasible told.job.inst told.job.sched
+    → IsFollowed told.job.inst told.job.sched text (journal_of told.followed)
+    → Valid told.followed.dispatch.inst × Feasible told.followed.dispatch.inst told.followed.dispatch.plan
+    → Keeps told.followed.dispatch → TellsCourse text told
+course_told text told feasible followed plan keeps =
+    let c = told.followed.dispatch in
+    record {
+      feasible = feasible;
+      followed = followed;
+      keeps = keeps;
+      worked = worked_taken c keeps;
+      safe = λ tasks sched work.
+          let goes = worked c tasks sched plan.0 plan.1 keeps work in
+          (goes, free_safe (with_tasks c.inst tasks) sched (cranes_kept c.inst tasks plan.0.cranes) goes);
+    }
 
 module _ {names : Names} {before mid after : View} {job : Job} (first : IsStep job_due names before mid (Ok job))
     (feasible : Feasible job.inst job.sched) where

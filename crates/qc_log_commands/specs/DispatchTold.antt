@@ -1,8 +1,13 @@
 -- public: what is told of a plan whose order is followed by a log.
-use Rattle.std.specs.Prelude.{ℕ, List}
+use Rattle.std.specs.Prelude.{◌≡◌, ℕ, List}
+use Rattle.qc_dispatch.specs.Course.{left, running}
 use Rattle.qc_dispatch.specs.Following.{journal_of}
 use Rattle.qc_dispatch.specs.Journal.{IsFollowed}
 use Rattle.qc_dispatch.specs.Promises.{Keeps}
+use Rattle.qc_dispatch.specs.Worked.{IsWorked, slots_taken, tasks_taken, with_tasks}
+use Rattle.qc_freemove.specs.FreeMotion.{IsFreeSafe}
+use Rattle.qc_model.specs.declared.schedule.Slot.{Slot}
+use Rattle.qc_model.specs.declared.task.Task.{Task}
 use Rattle.qc_model.specs.Rules.{Feasible}
 use Rattle.qc_run.specs.declared.status.Status.{Status}
 use Rattle.qc_run.specs.declared.status.Status.TheVariants as status
@@ -17,6 +22,13 @@ pub record TellsCourse (text : List ℕ) (told : Dispatched) : Type 0 where
   pub feasible : Feasible told.job.inst told.job.sched
   pub followed : IsFollowed told.job.inst told.job.sched text (journal_of told.followed)
   pub keeps : Keeps told.followed.dispatch
+  -- where no task is left and none runs, the work as it was granted and reported is a schedule
+  pub worked : left told.followed.dispatch ≡ 0 → running told.followed.dispatch ≡ 0
+      → IsWorked told.followed.dispatch (tasks_taken told.followed.dispatch) (slots_taken told.followed.dispatch)
+  -- each schedule of the work is feasible, and cranes that keep to it move safely, whatever lengths tasks took
+  pub safe : (tasks : List Task) (sched : List Slot) → IsWorked told.followed.dispatch tasks sched
+      → Feasible (with_tasks told.followed.dispatch.inst tasks) sched
+      × IsFreeSafe (with_tasks told.followed.dispatch.inst tasks) sched
 
 -- what is printed, and the status
 abbrev pub dispatched_text : Dispatched → List ℕ

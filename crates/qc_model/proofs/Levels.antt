@@ -6,7 +6,7 @@ use Rattle.std.proofs.lemmas.Bool.{cases_lt, cases_order, le-ltb, lt-ltb}
 use Rattle.std.proofs.lemmas.Int.{by_lt_z, ints}
 use Rattle.qc_model.specs.declared.schedule.Slot.{Slot}
 use Rattle.qc_model.specs.Bays.{bays_between, bays_up}
-use Rattle.qc_model.specs.Instance.{InstanceView, Valid, bay_of, crane}
+use Rattle.qc_model.specs.Instance.{HasValidCranes, InstanceView, Valid, bay_of, crane}
 use Rattle.qc_model.specs.Motion.{scaled}
 use Rattle.qc_model.specs.OneWay.{GoesUp}
 use Rattle.qc_model.specs.Rules.{Feasible, crane_of, end_of, start_of}
@@ -117,17 +117,17 @@ next_berth g k x y h = omega (arith, ints)
 same_berth : (inst : InstanceView) (v w : ℕ) → v ≡ w → berth_of inst v ≤ℤ berth_of inst w
 same_berth inst v w e = subst (λ (u : ℕ). berth_of inst v ≤ℤ berth_of inst u) e (omega (arith, ints))
 
-berths_rise : (inst : InstanceView) → Valid inst → (v w : ℕ) → v ≤ w → w < length inst.cranes
+berths_rise : (inst : InstanceView) → HasValidCranes inst → (v w : ℕ) → v ≤ w → w < length inst.cranes
     → berth_of inst v ≤ℤ berth_of inst w
-berths_rise inst valid v zero order high = same_berth inst v zero (omega arith)
-berths_rise inst valid v (suc w) order high =
+berths_rise inst cranes v zero order high = same_berth inst v zero (omega arith)
+berths_rise inst cranes v (suc w) order high =
     let e : w + 1 ≡ suc w = omega arith in
-    let apart = valid.cranes.order w (omega arith) in
+    let apart = cranes.order w (omega arith) in
     let step = subst (λ (u : ℕ). ((crane inst w).bay +ℤ pos inst.gap) ≤ℤ (crane inst u).bay) e apart in
     let next = next_berth inst.gap w (crane inst w).bay (crane inst (suc w)).bay step in
     elim (cases_lt w v) [
       | inl l ↦ same_berth inst v (suc w) (omega arith)
-      | inr l ↦ let before = berths_rise inst valid v w l (omega arith) in omega (arith, ints, before, next)
+      | inr l ↦ let before = berths_rise inst cranes v w l (omega arith) in omega (arith, ints, before, next)
     ]
 
 pub same_way : (inst : InstanceView) (v w : ℕ) (x y : ℤ) → v ≡ w
@@ -175,16 +175,16 @@ module _ (inst : InstanceView) (sched : List Slot) (g : Feasible inst sched) whe
     ]
   ]
 
-  pub berths_of : Valid inst → (d : ℕ) → HasBerths inst sched d
+  pub berths_of : HasValidCranes inst → (d : ℕ) → HasBerths inst sched d
   unfolding task_level berth_level
-  berths_of valid d = record {
+  berths_of cranes d = record {
     leaves = λ j v m low order begun.
         let far = scaled_late d inst.travel (bay_on inst sched j) (berth_of inst v) _ _
         (leaves_by j v low order) in omega (arith, ints, far);
     waits = λ i v m low high order early.
         let far = scaled_late d inst.travel (berth_of inst v) (bay_on inst sched i) _ _
         (waits_by i v low high order) in omega (arith, ints, far);
-    order = λ v w order high. scaled_le (d * inst.travel) _ _ (berths_rise inst valid v w order high);
+    order = λ v w order high. scaled_le (d * inst.travel) _ _ (berths_rise inst cranes v w order high);
   }
 
 module _ (inst : InstanceView) (sched : List Slot) (g : GoesUp inst sched) where
@@ -210,5 +210,5 @@ module _ (inst : InstanceView) (sched : List Slot) (g : GoesUp inst sched) where
   levels_of valid d = record {
     climbs = λ i j low high order.
         scaled_late d inst.travel (bay_on inst sched i) (bay_on inst sched j) _ _ (climbs_by i j low high order);
-    berths = berths_of inst sched g.feasible valid d;
+    berths = berths_of inst sched g.feasible valid.cranes d;
   }

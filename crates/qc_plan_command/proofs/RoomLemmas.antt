@@ -21,7 +21,7 @@ module _ (inst : InstanceView) (sched : List Slot) (tasks : ℕ) where
   pub free_moves : (t : Turn) (way : Direction) (track : FreeTrackView) → Valid inst → IsAllowedSo t inst sched way
       → IsRoom t tasks (room.Free track) → MovesSafely t inst sched (motion.Free track)
   free_moves turn.OneWay way track valid goes fits = absurd fits
-  free_moves turn.Free way track valid goes fits = free_safe inst sched valid goes.0
+  free_moves turn.Free way track valid goes fits = free_safe inst sched valid.cranes goes.0
 
   pub one_way_goes : (t : Turn) (way : Direction) (track : TrackView) → IsAllowedSo t inst sched way
       → IsRoom t tasks (room.OneWay track) → Goes inst sched way

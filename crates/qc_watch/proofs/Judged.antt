@@ -10,7 +10,7 @@ use Rattle.qc_watch.specs.Breach.{AreKnown, IsAhead, IsClearAt, IsFirstBreach, I
 use Rattle.qc_watch.specs.Cursors.{AreClear, AreClearFrom, AreNear, ArePlaces, IsNearPair, IsNextTime, IsOver, IsPlaceAt, place}
 use Rattle.qc_watch.specs.Moments.{IsAt, IsKnown, between, reported}
 use Rattle.qc_watch.specs.Reports.{AreReports, reports_of}
-use Rattle.qc_watch.proofs.Safety.{safe_from}
+use Rattle.qc_watch.proofs.Safety.{clear_to, safe_from}
 use Rattle.qc_watch.proofs.Soonest.{one_list}
 use Rattle.qc_watch.proofs.Standing.{one_place, some_report}
 
@@ -60,17 +60,19 @@ module _ (ship : ShipView) (lists : List (List Report)) (tick : ℕ) where
         near_by v w (place places v) (place places w) pair.pair.order pair.pair.range
         (stand v (omega (arith, pair.pair.order, pair.pair.range))) (stand w (omega (arith, pair.pair.range))) pair.pair.near
 
-    pub breach_of : (now v w : ℕ) → IsNextTime lists now tick
+    pub breach_of : AreReports lists → (now v w : ℕ) → IsNextTime lists now tick
         → ((t : ℕ) → IsReportTime lists t → t < now → IsClearAt ship lists t 1) → IsNearPair ship places v w
         → IsFirstBreach ship lists (record { at = tick; first = v; second = w })
-    breach_of now v w next earlier pair = record {
+    breach_of reports now v w next earlier pair = record {
       time = next.is;
       known = (near_of v w pair).known;
       near = (near_of v w pair).near;
-      first_time = λ t time before. elim (cases_lt t now) [
-        | inl l ↦ earlier t time l
-        | inr l ↦ absurd (omega (arith, next.first t time l, before))
-      ];
+      clear_before = λ t m d time before some soon. clear_to ship lists (one_list lists reports) size t time
+          (λ s is early. elim (cases_lt s now) [
+            | inl l ↦ earlier s is l
+            | inr l ↦ absurd (omega (arith, next.first s is l, early, before))
+          ])
+          m d some soon;
       first_pair = λ x y known before. elim before [
         | inl lower ↦ clear_of x y known (pair.first x lower y known.order known.range)
         | inr same ↦ clear_of x y known (rw same.0 (pair.pair.first y (omega (arith, same.0, known.order)) same.1))

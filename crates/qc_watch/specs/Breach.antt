@@ -64,11 +64,12 @@ IsReportTime lists t = Any (λ list. Any (λ r. r.at ≡ t) list) lists
 abbrev pub IsPairBefore : (v w first second : ℕ) → Type 0
 IsPairBefore v w first second = (v < first) ⊎ ((v ≡ first) × (w < second))
 
--- the first time of a report at which two cranes are too near, with the first such pair
+-- the first time of a report at which two cranes are too near, with the first such pair; every moment up to the report
+-- before it is clear, however finely ticks are divided
 pub record IsFirstBreach (ship : ShipView) (lists : List (List Report)) (told : Breach) : Type 0 where
   pub time : IsReportTime lists told.at
   pub known : AreKnown ship lists told.first told.second told.at 1
   pub near : StandTooNear ship lists told.first told.second told.at 1
-  pub first_time : (t : ℕ) → IsReportTime lists t → t < told.at → IsClearAt ship lists t 1
+  pub clear_before : (t m d : ℕ) → IsReportTime lists t → t < told.at → 1 ≤ d → m ≤ d * t → IsClearAt ship lists m d
   pub first_pair : (v w : ℕ) → AreKnown ship lists v w told.at 1 → IsPairBefore v w told.first told.second
       → StandClear ship lists v w told.at 1

@@ -106,4 +106,4 @@ returns-clause-between c =
     c.new-sweep.ensures.valid c.requires.range (are_points c)
 
 pub returns-clause-safe : goal.returns-clause-safe
-returns-clause-safe c = free_safe c.args.inst.now c.args.sched.now c.new-sweep.ensures.valid c.requires.feasible
+returns-clause-safe c = free_safe c.args.inst.now c.args.sched.now c.new-sweep.ensures.valid.cranes c.requires.feasible

@@ -1,5 +1,5 @@
 use Rattle.std.proofs.Common.{refl}
-use Rattle.qc_log_commands.proofs.FollowLemmas.{log_followed, log_refused, log_unheld, log_unread}
+use Rattle.qc_log_commands.proofs.FollowLemmas.{course_told, log_followed, log_refused, log_unheld, log_unread}
 use Rattle.qc_log_commands.proofs.dispatched.follow.Goals as goal
 
 pub returns-in-Err-read_input : goal.returns-in-Err-read_input
@@ -8,11 +8,9 @@ returns-in-Err-read_input g c = log_unread c.in-Ok.ensures.step c.in_default.ens
 pub returns-in-Ok-follow_log : goal.returns-in-Ok-follow_log
 returns-in-Ok-follow_log g c =
     log_followed c.in-Ok.ensures.step c.in_default.ensures.feasible c.in-Ok-read_input.ensures
-    (record { job = c.in-Ok.job; followed = c.in-Ok-follow_log.followed }) refl (record {
-      feasible = c.in_default.ensures.feasible;
-      followed = rw c.as_slice.ensures at c.in-Ok-follow_log.ensures.following;
-      keeps = c.in-Ok-follow_log.ensures.keeps;
-    })
+    (record { job = c.in-Ok.job; followed = c.in-Ok-follow_log.followed }) refl
+    (course_told _ _ c.in_default.ensures.feasible (rw c.as_slice.ensures at c.in-Ok-follow_log.ensures.following)
+    c.in-Ok-follow_log.ensures.plan c.in-Ok-follow_log.ensures.keeps)
 
 pub returns-in-Err-Fault : goal.returns-in-Err-Fault
 returns-in-Err-Fault g c =

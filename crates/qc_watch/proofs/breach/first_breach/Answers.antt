@@ -20,7 +20,7 @@ loop-at-preserved c = record {
 pub returns-in-Some-near_pair-clause-first : goal.returns-in-Some-near_pair-clause-first
 returns-in-Some-near_pair-clause-first c =
     breach_of c.args.ship.now c.args.reports.now c.in-Some.at c.places-places.result c.requires c.places-places.ensures.places
-    c.loop-at.cursors.tick c.in-Some-near_pair.first c.in-Some-near_pair.second c.in-Some.ensures.time c.loop-at.invariant.clear c.in-Some-near_pair.ensures
+    c.in-Some.ensures.reports c.loop-at.cursors.tick c.in-Some-near_pair.first c.in-Some-near_pair.second c.in-Some.ensures.time c.loop-at.invariant.clear c.in-Some-near_pair.ensures
 
 pub returns-in-Some-near_pair-clause-safe : goal.returns-in-Some-near_pair-clause-safe
 unfolding returns-in-Some-near_pair-clause-first

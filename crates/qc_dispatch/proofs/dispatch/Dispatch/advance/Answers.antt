@@ -11,22 +11,24 @@ pub invariant_of-self : goal.invariant_of-self
 invariant_of-self c =
     let f = c.self.inside in
     let soonest = subst (λ (x : Course). IsSoonest x c.args.to c.in-Some.next) (sym c.self.view_is) c.in-Some.ensures in
-    kept_started (course_of f) f.marks.items f.waits.items.items c.self.invariant c.in-Some.next.task c.in-Some.next.moment soonest.may
+    kept_started (course_of f) f.marks.items f.waits.items.items c.self.invariant c.in-Some.next.task c.in-Some.next.moment soonest.from soonest.may
     (omega (arith, soonest.by, c.requires.by))
 
 pub invariant_of-self-in-None : goal.invariant_of-self-in-None
 invariant_of-self-in-None c =
     let f = c.self.inside in
-    kept_later (course_of f) f.marks.items f.waits.items.items c.self.invariant c.args.to c.requires.by
+    kept_later (course_of f) f.marks.items f.waits.items.items c.self.invariant c.args.to (rw (← c.self.view_is) at c.requires.from) c.requires.by
 
 pub returns-in-Some-clause-keeps : goal.returns-in-Some-clause-keeps
 returns-in-Some-clause-keeps c =
     let f = c.self.inside in
     let soonest = subst (λ (x : Course). IsSoonest x c.args.to c.in-Some.next) (sym c.self.view_is) c.in-Some.ensures in
-    (goes_started (course_of f) c.self.invariant.course c.in-Some.next.task c.in-Some.next.moment soonest.may).keeps
+    (goes_started (course_of f) c.self.invariant.course c.in-Some.next.task c.in-Some.next.moment soonest.from soonest.may).keeps
 
 pub returns-in-None-clause-keeps : goal.returns-in-None-clause-keeps
-returns-in-None-clause-keeps c = (goes_later (course_of c.self.inside) c.self.invariant.course c.args.to).keeps
+returns-in-None-clause-keeps c =
+    let from = rw (← c.self.view_is) at c.requires.from in
+    (goes_later (course_of c.self.inside) c.self.invariant.course c.args.to from).keeps
 
 pub returns-in-None-clause-goes_on : goal.returns-in-None-clause-goes_on
 returns-in-None-clause-goes_on c =
