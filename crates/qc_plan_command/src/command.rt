@@ -1,5 +1,5 @@
 //! The command that plans.
-ghost use Rattle.std.specs.Prelude.{◌≡◌, ◌≤◌, IfOk, IfSome, IsSome, Ok, OnErr};
+ghost use Rattle.std.specs.Prelude.{◌≡◌, ◌≤◌, IfOk, IfSome, IsSome, None, Ok, OnErr, OnOk};
 ghost use Rattle.qc_io.specs.Writes.{Counts};
 ghost use Rattle.qc_model.specs.Instance.{Valid};
 ghost use Rattle.qc_model.specs.Numbers.{most_branchings};
@@ -41,6 +41,7 @@ fn run_search<S: Shelf>(
         (S.Sink.view shelf.old).files (S.Sink.view shelf.new).files result }
     ensures counts { Counts (S.Sink.view shelf.old).faults (S.Sink.view shelf.new).faults result }
     ensures read_faults { (S.Sink.view shelf.new).read_faults ≡ (S.Sink.view shelf.old).read_faults }
+    ensures unmade { OnOk result ((S.Sink.view shelf.new).made ≡ None) }
 {
     shelf.tell(search.outlook());
     ahead.offer_to(inst, &mut search);
@@ -62,6 +63,7 @@ fn store_search<S: Shelf>(
     requires due { ComesTo (own_job_due (planning asked.now).inputs.own) (planning asked.now).inputs
         (S.Sink.view shelf.old).files (Ok job.now) }
     requires allowed { IfSome job.now.own (IsAllowed job.now.inst) }
+    requires turn { job.now.inst.turn ≡ (planning asked.now).inputs.turn }
     requires ahead { IsInitialPlan job.now.inst ahead }
     ensures stored { IfOk result
         (IsStored (planning asked.now) (S.Sink.view shelf.old) (S.Sink.view shelf.new) job.now.inst) }
@@ -95,6 +97,7 @@ fn plan_job<S: Shelf>(
     requires due { ComesTo (own_job_due (planning asked.now).inputs.own) (planning asked.now).inputs
         (S.Sink.view shelf.old).files (Ok job) }
     requires allowed { IfSome job.own (IsAllowed job.inst) }
+    requires turn { job.inst.turn ≡ (planning asked.now).inputs.turn }
     ensures serves { IsPlanning (planning asked.now) (S.Sink.view shelf.old) (S.Sink.view shelf.new) (Ok result) }
     ensures ready { CanBeTold result }
     ensures never_falls { (S.Sink.view shelf.old).faults ≤ (S.Sink.view shelf.new).faults }
