@@ -19,6 +19,7 @@ use crate::answer::PlanAnswer;
 use crate::found::answer_of;
 use crate::opened::{Resources, open_for};
 use crate::report::report;
+use crate::telling::tell;
 use crate::way::own_way;
 use qc_io::{Shelf, Sink, WriteFault};
 use qc_model::Instance;
@@ -27,7 +28,7 @@ use qc_search::{Done, Search, store_best, store_tree};
 use std::alloc::Global;
 
 /// Runs the search and makes the tree's file. Where a schedule is found ahead of it, it is offered that. Whoever waits is
-/// told what is known, before anything is found and before the search.
+/// told what is known before it.
 fn run_search<S: Shelf>(
     asked: &PlanAsked<'_>,
     inst: &Instance,
@@ -43,9 +44,9 @@ fn run_search<S: Shelf>(
     ensures read_faults { (S.Sink.view shelf.new).read_faults ≡ (S.Sink.view shelf.old).read_faults }
     ensures unmade { OnOk result ((S.Sink.view shelf.new).made ≡ None) }
 {
-    shelf.tell(search.outlook());
     ahead.offer_to(inst, &mut search);
-    shelf.tell(search.outlook());
+    let known = search.outlook();
+    tell(&search, known, shelf);
     store_tree(search, asked.tree, shelf)
 }
 
@@ -136,7 +137,7 @@ fn serve<S: Shelf>(alloc: Global, asked: &PlanAsked<'_>, shelf: &mut S) -> Resul
             return Ok(PlanAnswer::Broken(broken));
         }
     };
-    let Ok(opened) = open_for(alloc, &job.inst, job.own.as_ref(), way, asked.nodes) else {
+    let Ok(opened) = open_for(alloc, &job.inst, job.own.as_ref(), way, asked.nodes, shelf) else {
         drop(job);
         return Err(Stop::OutOfMemory);
     };
