@@ -9,7 +9,7 @@ ghost use Rattle.qc_plan_command.specs.InitialPlan.{IsInitialPlan, IsGoing};
 ghost use Rattle.qc_search.specs.Outcome.{WasOffered};
 
 use crate::nowhere::Nowhere;
-use crate::telling::first_found;
+use crate::telling::{first_found, own_end};
 use crate::way::way_of;
 use qc_io::Shelf;
 use qc_model::{Instance, Schedule, Turn, copy, direction_of};
@@ -48,7 +48,6 @@ fn one_way_search<S: Shelf>(
     inst: &Instance,
     own: Option<&Schedule>,
     nodes: u32,
-    waited: &Search,
     shelf: &mut S,
 ) -> Result<Search, OutOfMemory>
     requires nodes { nodes ≤ most_branchings }
@@ -56,13 +55,14 @@ fn one_way_search<S: Shelf>(
     ensures is { IfOk result (λ search. search.inst ≡ with_turn inst.now OneWay) }
     ensures stays { S.Sink.view shelf.new ≡ S.Sink.view shelf.old }
 {
+    let own_end = own_end(inst, own);
     let inst = copy(alloc, inst)?.with_turn(Turn::OneWay);
     let Ok(mut search) = Search::open(alloc, &inst, nodes) else {
         drop(inst);
         return Err(OutOfMemory);
     };
     offer_own(&mut search, &inst, own);
-    let Ok(found) = first_found(alloc, &inst, waited, shelf) else {
+    let Ok(found) = first_found(alloc, &inst, own_end, shelf) else {
         drop(search);
         drop(inst);
         return Err(OutOfMemory);
@@ -74,13 +74,12 @@ fn one_way_search<S: Shelf>(
 }
 
 /// What is known or to be searched ahead of a search with at most so many branchings; the planner's own takes part in a
-/// search for one that goes one way. What is found is told to whoever waits for the search.
+/// search for one that goes one way. When the best plan ends is told as it is found.
 pub(crate) fn ahead_of<S: Shelf>(
     alloc: Global,
     inst: &Instance,
     own: Option<&Schedule>,
     nodes: u32,
-    waited: &Search,
     shelf: &mut S,
 ) -> Result<InitialPlan, OutOfMemory>
     requires nodes { nodes ≤ most_branchings }
@@ -90,11 +89,11 @@ pub(crate) fn ahead_of<S: Shelf>(
 {
     match inst.turn() {
         Turn::OneWay => {
-            let found = first_found(alloc, inst, waited, shelf)?;
+            let found = first_found(alloc, inst, own_end(inst, own), shelf)?;
             Ok(InitialPlan::Swept(found))
         }
         Turn::Free => {
-            let search = one_way_search(alloc, inst, own, nodes, waited, shelf)?;
+            let search = one_way_search(alloc, inst, own, nodes, shelf)?;
             Ok(InitialPlan::OneWay(search))
         }
     }

@@ -7,7 +7,6 @@ ghost use Rattle.qc_starts.specs.Tight.{IsSeenSo};
 
 use crate::ahead::{InitialPlan, ahead_of};
 use crate::room::{TrackBuffer, room_for};
-use crate::telling::tell_found;
 use qc_io::Shelf;
 use qc_model::{Direction, Instance, Schedule};
 use qc_num::OutOfMemory;
@@ -43,8 +42,8 @@ fn search_for(
     Ok(search)
 }
 
-/// What a plan of the instance takes, with at most so many branchings, where the planner has this schedule or none. What is
-/// known and found is told to whoever waits.
+/// What a plan of the instance takes, with at most so many branchings, where the planner has this schedule or none. When the
+/// best plan ends is told as it is found.
 pub(crate) fn open_for<S: Shelf>(
     alloc: Global,
     inst: &Instance,
@@ -60,13 +59,12 @@ pub(crate) fn open_for<S: Shelf>(
     ensures stays { S.Sink.view shelf.new ≡ S.Sink.view shelf.old }
 {
     let room = room_for(alloc, inst)?;
-    let Ok(search) = search_for(alloc, inst, own, way, nodes) else {
+    let Ok(ahead) = ahead_of(alloc, inst, own, nodes, shelf) else {
         drop(room);
         return Err(OutOfMemory);
     };
-    tell_found(&search, None, shelf);
-    let Ok(ahead) = ahead_of(alloc, inst, own, nodes, &search, shelf) else {
-        drop(search);
+    let Ok(search) = search_for(alloc, inst, own, way, nodes) else {
+        drop(ahead);
         drop(room);
         return Err(OutOfMemory);
     };
