@@ -1,10 +1,11 @@
 -- What is told of a search follows from what it came to.
-use Rattle.std.proofs.Common.{◌≡◌, ◌≤◌, ◌⊎◌, inl, inr, ℕ, Bool, true, false, arith, List, Option, None, Some, refl, sym, ap, ◌∙◌, subst, IfSome, IsSomeAnd, nat_le, if◌then◌else◌}
+use Rattle.std.proofs.Common.{◌≡◌, ◌≤◌, ◌⊎◌, inl, inr, ℕ, Bool, true, false, arith, List, Option, None, Some, refl, sym, ap, ◌∙◌, subst, subst₂, IfSome, IsSomeAnd, nat_le, if◌then◌else◌}
 use Rattle.std.proofs.lemmas.Bool.{leb-true}
 use Rattle.std.proofs.lemmas.Bool.Decides.{leb_tells}
 use Rattle.qc_num.specs.declared.bound.Bound.{Bound}
 use Rattle.qc_num.specs.declared.bound.Bound.TheVariants.{Least, Never}
 use Rattle.qc_model.specs.declared.schedule.Slot.{Slot}
+use Rattle.qc_model.specs.declared.turn.Turn.{Turn}
 use Rattle.qc_model.specs.Instance.{InstanceView}
 use Rattle.qc_model.specs.Judge.{IsJudgeable}
 use Rattle.qc_model.specs.OneWay.{IsAllowed}
@@ -25,7 +26,9 @@ use Rattle.qc_run.specs.declared.status.Status.{Status}
 use Rattle.qc_run.specs.declared.status.Status.TheVariants as status
 use Rattle.qc_run.specs.Told.{IsBest}
 use Rattle.qc_run.proofs.StatusLemmas.{IsOwn}
-use Rattle.qc_plan_command.specs.Found.{IsByTightEnd, TellsPlan}
+use Rattle.qc_plan_command.specs.declared.answer.PlanAnswer.{PlanAnswer}
+use Rattle.qc_plan_command.specs.declared.answer.PlanAnswer.TheVariants as answer
+use Rattle.qc_plan_command.specs.Found.{IsByTightEnd, IsSoundAnswer, IsSoundPlan, MovesSafely, Tells, TellsPlan}
 use Rattle.qc_plan_command.specs.Promises.{IsSearchEnd}
 use Rattle.qc_plan_command.specs.Reports.{found_status}
 
@@ -191,6 +194,38 @@ own_none inst nodes own tree done found none = by own (own_end inst nodes own tr
     by (Some sched) late =
         absurd (subst (λ (o : Option (List Slot)). IsAtMost (best_end inst o) (Least late.tight_end)) none
         late.by)
+
+-- ---- what holds of an answer by itself
+
+sound_plan : (inst : InstanceView) (done : DoneView) (told : Planned) (asked : Turn) → inst.turn ≡ asked
+    → NoneEarlier inst done.bound → IfSome done.best (IsTight inst) → TellsPlan inst done told → IsSoundPlan asked told
+sound_plan inst done told asked is none tight tells =
+    let goes : IsAllowed inst tells.sched =
+    tight_allowed inst tells.sched (of_some (IsTight inst) done.best tells.sched tells.best tight) in
+    let late : NoneEarlier inst (Least told.bound) = subst (NoneEarlier inst) tells.bound none in
+    let by : told.bound ≤ ends inst tells.sched = late tells.sched goes in
+    let same_inst = sym tells.inst_told in
+    let same_sched = sym tells.sched_told in
+    let end : told.end ≡ ends told.inst told.sched =
+    subst₂ (λ (i : InstanceView) (s : List Slot). told.end ≡ ends i s) same_inst same_sched tells.end in
+    record {
+      turn_told = ap (λ (i : InstanceView). i.turn) tells.inst_told ∙ is;
+      allowed = subst₂ (λ (i : InstanceView) (s : List Slot). IsAllowed i s) same_inst same_sched goes;
+      end = end;
+      safe = subst₂ (λ (i : InstanceView) (s : List Slot). MovesSafely asked i s told.motion) same_inst same_sched
+          (subst (λ (t : Turn). MovesSafely t inst tells.sched told.motion) is tells.safe);
+      none_earlier = subst (λ (i : InstanceView). NoneEarlier i (Least told.bound)) same_inst late;
+      by = omega (arith, by, tells.end);
+    }
+
+pub sound_answer : (inst : InstanceView) (done : DoneView) (asked : Turn) → inst.turn ≡ asked
+    → NoneEarlier inst done.bound → IfSome done.best (IsTight inst) → (a : PlanAnswer) → Tells inst done a
+    → IsSoundAnswer asked a
+sound_answer inst done asked is none tight answer.WriteFault tells = tt
+sound_answer inst done asked is none tight (answer.Broken broken) tells = tt
+sound_answer inst done asked is none tight (answer.Planned told) tells = sound_plan inst done told asked is none tight tells
+sound_answer inst done asked is none tight (answer.Unplanned bound branched) tells = tt
+sound_answer inst done asked is none tight (answer.Infeasible branched) tells = tt
 
 -- ---- what is written is read again
 

@@ -27,7 +27,7 @@ use Rattle.qc_plan_command.specs.declared.answer.PlanAnswer.{PlanAnswer}
 use Rattle.qc_plan_command.specs.declared.answer.PlanAnswer.TheVariants as answer
 use Rattle.qc_plan_command.specs.Account.{IsLeft, IsOwnBroken, IsPlanRun, IsPlanning, IsStopped, IsWritten}
 use Rattle.qc_run.specs.Inputs.{Planning}
-use Rattle.qc_plan_command.specs.Promises.{EndsPlanned, IsBudgetTold, IsInfeasibleTold, IsOptimalTold, IsOwnBrokenTold, IsSearchEnd, IsStopTold, IsUnplannedTold, PlanPromises}
+use Rattle.qc_plan_command.specs.Promises.{EndsPlanned, IsBudgetTold, IsInfeasibleTold, IsOptimalTold, IsOwnBrokenTold, IsSearchEnd, IsSoundTold, IsStopTold, IsUnplannedTold, PlanPromises}
 use Rattle.qc_plan_command.specs.Reports.{found_status, plan_prints, plan_prints_part, plan_status}
 use Rattle.qc_plan_command.proofs.FoundLemmas.{found_is_not, in_time, is_best, kind_by, kind_none, none_goes, own_found, own_no_later, own_none, search_end, too_late}
 use Rattle.qc_plan_command.proofs.Reach.{out_of_reach}
@@ -223,6 +223,48 @@ module _ (asked : Planning) (before after pb pa : View) (ended : Status)
   plan_broken e = of_status account plan_prints plan_prints_part plan_status pb pa ended run status.Broken e
       (λ f. cc f) broken_told
 
+  sound_told : (r : Result PlanAnswer Stop) → account r
+      → (answer_status plan_status r ≡ status.Optimal) ⊎ (answer_status plan_status r ≡ status.BudgetPlan)
+      → answer_prints Prints plan_prints r pb.written pa.written → IsSoundTold asked pb pa
+  sound_told (Ok (answer.Planned told)) serves e report = record { told = told; sound = serves.0.3; report = report }
+  sound_told (Ok answer.WriteFault) serves e report = elim e [ inl e ↦ absurd (cc e) | inr e ↦ absurd (cc e) ]
+  sound_told (Ok (answer.Broken broken)) serves e report = elim e [ inl e ↦ absurd (cc e) | inr e ↦ absurd (cc e) ]
+  sound_told (Ok (answer.Unplanned bound branched)) serves e report =
+      elim e [ inl e ↦ absurd (cc e) | inr e ↦ absurd (cc e) ]
+  sound_told (Ok (answer.Infeasible branched)) serves e report =
+      elim e [ inl e ↦ absurd (cc e) | inr e ↦ absurd (cc e) ]
+  sound_told (Err why) serves e report = elim e [
+    | inl e ↦ absurd (stop_is_not why status.Optimal e tt)
+    | inr e ↦ absurd (stop_is_not why status.BudgetPlan e tt)
+  ]
+
+  plan_sound : (ended ≡ status.Optimal) ⊎ (ended ≡ status.BudgetPlan) → IsSoundTold asked pb pa
+  plan_sound (inl e) = of_status account plan_prints plan_prints_part plan_status pb pa ended run status.Optimal e
+      (λ f. cc f) (λ r serves is. sound_told r serves (inl is))
+  plan_sound (inr e) = of_status account plan_prints plan_prints_part plan_status pb pa ended run status.BudgetPlan e
+      (λ f. cc f) (λ r serves is. sound_told r serves (inr is))
+
+  own_end : (s : Status) → IsSearchEnd s → IsOwn s
+  own_end status.Optimal end = tt
+  own_end status.Infeasible end = tt
+  own_end status.BudgetPlan end = tt
+  own_end status.BudgetNone end = tt
+  own_end other end = absurd end
+
+  unmade : (r : Result PlanAnswer Stop) → account r → IsSearchEnd (answer_status plan_status r) → after.made ≡ None
+  unmade (Ok answer.WriteFault) serves end = absurd end
+  unmade (Ok (answer.Broken told)) serves end = absurd end
+  unmade (Ok (answer.Planned told)) serves end = serves.0.2
+  unmade (Ok (answer.Unplanned bound branched)) serves end = serves.0.2
+  unmade (Ok (answer.Infeasible branched)) serves end = serves.0.2
+  unmade (Err why) serves end = absurd (stop_is_not why _ refl (own_end _ end))
+
+  none_left : IsSearchEnd ended → after.made ≡ None
+  none_left end =
+      let told = whole_of account plan_prints plan_prints_part plan_status pb pa ended run
+      (λ e. subst IsSearchEnd e end) in
+      unmade run.answer run.serves (subst IsSearchEnd told.0 end)
+
   -- a search that ends with Budget had fewer branchings than the limit
   undecided : (held : Files) (a : PlanAnswer) → (w : IsWritten asked held after.files a)
       → w.search.done.kind ≡ kind.Budget
@@ -388,6 +430,8 @@ module _ (asked : Planning) (before after pb pa : View) (ended : Status)
     plan_infeasible = plan_infeasible;
     plan_budget = plan_budget;
     plan_none = plan_none;
+    plan_sound = plan_sound;
+    none_left = none_left;
     plan_broken = plan_broken;
     plan_decides = plan_decides;
     plan_leaves = plan_leaves;

@@ -22,7 +22,7 @@ use Rattle.qc_run.proofs.DueLemmas.{own_job_turn}
 use Rattle.qc_plan_command.specs.declared.answer.PlanAnswer.{PlanAnswer}
 use Rattle.qc_plan_command.specs.declared.answer.PlanAnswer.TheVariants as answer
 use Rattle.qc_plan_command.specs.Account.{IsLeft, IsPlanning, IsSearched, IsStopped, IsWritten, Writes}
-use Rattle.qc_plan_command.specs.Found.{Tells}
+use Rattle.qc_plan_command.specs.Found.{IsSoundAnswer, Tells}
 use Rattle.qc_plan_command.specs.Resources.{IsSearchFor, WasRun, search_from}
 
 -- what stays as it was is as it was, told or not
@@ -230,23 +230,25 @@ module _ (asked : Planning) (before mid after : View) (files : mid.files ≡ bef
     told.1 ∙ reads,
   )
   over_read (answer.Planned found) told =
-      ((told.0.0 ∙ faults, written_over (answer.Planned found) told.0.1), told.1 ∙ reads)
+      ((told.0.0 ∙ faults, written_over (answer.Planned found) told.0.1, told.0.2, told.0.3), told.1 ∙ reads)
   over_read (answer.Unplanned bound branched) told =
-      ((told.0.0 ∙ faults, written_over (answer.Unplanned bound branched) told.0.1), told.1 ∙ reads)
+      ((told.0.0 ∙ faults, written_over (answer.Unplanned bound branched) told.0.1, told.0.2, tt), told.1 ∙ reads)
   over_read (answer.Infeasible branched) told =
-      ((told.0.0 ∙ faults, written_over (answer.Infeasible branched) told.0.1), told.1 ∙ reads)
+      ((told.0.0 ∙ faults, written_over (answer.Infeasible branched) told.0.1, told.0.2, tt), told.1 ∙ reads)
 
 -- an answer that tells of a search wrote both files
 pub writes_told : (asked : Planning) (before after : View) (inst : InstanceView) (done : DoneView)
     (a : PlanAnswer) → Tells inst done a
     → after.faults ≡ before.faults → IfSome before.files (λ held. IsWritten asked held after.files a)
-    → Writes asked before after a
-writes_told asked before after inst done answer.WriteFault told faults written = absurd told
-writes_told asked before after inst done (answer.Broken broken) told faults written = absurd told
-writes_told asked before after inst done (answer.Planned found) told faults written = (faults, written)
-writes_told asked before after inst done (answer.Unplanned bound branched) told faults written =
-    (faults, written)
-writes_told asked before after inst done (answer.Infeasible branched) told faults written = (faults, written)
+    → after.made ≡ None → IsSoundAnswer asked.inputs.turn a → Writes asked before after a
+writes_told asked before after inst done answer.WriteFault told faults written made sound = absurd told
+writes_told asked before after inst done (answer.Broken broken) told faults written made sound = absurd told
+writes_told asked before after inst done (answer.Planned found) told faults written made sound =
+    (faults, written, made, sound)
+writes_told asked before after inst done (answer.Unplanned bound branched) told faults written made sound =
+    (faults, written, made, tt)
+writes_told asked before after inst done (answer.Infeasible branched) told faults written made sound =
+    (faults, written, made, tt)
 
 -- what holds of an error holds where the test for one says so
 pub by_err : {T E P : Type 0} (r : Result T E) → is_err r ≡ true → OnErr r P → P

@@ -1,5 +1,5 @@
 -- public: the account of a plan: what its answer says of the files.
-use Rattle.std.specs.Prelude.{◌≡◌, ◌⊎◌, List, Option, Some, Result, Ok, Err, IfSome}
+use Rattle.std.specs.Prelude.{◌≡◌, ◌⊎◌, List, Option, None, Some, Result, Ok, Err, IfSome}
 use Rattle.qc_io.specs.Outside.{Files, Rose, View}
 use Rattle.qc_model.specs.declared.schedule.Slot.{Slot}
 use Rattle.qc_model.specs.Instance.{InstanceView, Valid}
@@ -19,7 +19,7 @@ use Rattle.qc_run.specs.Steps.{ComesTo, MayStop, Stops}
 use Rattle.qc_plan_command.specs.declared.answer.PlanAnswer.{PlanAnswer}
 use Rattle.qc_plan_command.specs.declared.answer.PlanAnswer.TheVariants as answer
 use Rattle.qc_run.specs.Inputs.{Planning}
-use Rattle.qc_plan_command.specs.Found.{Tells}
+use Rattle.qc_plan_command.specs.Found.{IsSoundAnswer, Tells}
 use Rattle.qc_plan_command.specs.Reports.{plan_prints, plan_prints_part, plan_status}
 
 -- the search of the instance of the two files, which is valid, with the turn that is asked about, came to this; cranes may
@@ -72,7 +72,7 @@ pub record IsOwnBroken (asked : Planning) (before after : View) (told : Broken) 
   pub files : after.files ≡ before.files
   pub made : after.made ≡ before.made
 
--- what an answer says of the files
+-- what an answer says of the files; where it tells of a search, no file is being made any more
 abbrev pub Writes : Planning → View → View → PlanAnswer → Type 0
 Writes asked before after answer.WriteFault =
     Rose before.faults after.faults × IfSome before.files (λ held. IsStopped asked held after.files)
@@ -80,6 +80,7 @@ Writes asked before after (answer.Broken told) =
     (after.faults ≡ before.faults) × IsOwnBroken asked before after told
 Writes asked before after a =
     (after.faults ≡ before.faults) × IfSome before.files (λ held. IsWritten asked held after.files a)
+    × (after.made ≡ None) × IsSoundAnswer asked.inputs.turn a
 
 -- what a plan says of its answer and of the shelf; where it stopped, no file was begun
 abbrev pub IsPlanning : Planning → View → View → Result PlanAnswer Stop → Type 0

@@ -8,9 +8,11 @@ use Rattle.qc_model.specs.declared.turn.Turn.TheVariants as turn
 use Rattle.qc_model.specs.Instance.{InstanceView}
 use Rattle.qc_model.specs.Judge.{IsDirection}
 use Rattle.qc_model.specs.Motion.{IsSafe}
+use Rattle.qc_model.specs.OneWay.{IsAllowed}
 use Rattle.qc_model.specs.Rules.{ends}
 use Rattle.qc_search.specs.Run.{DoneView, IsTightEnd}
 use Rattle.qc_search.specs.Outcome.{IsReread}
+use Rattle.qc_tree.specs.Trees.{NoneEarlier}
 use Rattle.qc_plan_command.specs.declared.answer.Motion.{Motion}
 use Rattle.qc_plan_command.specs.declared.answer.Motion.TheVariants as motion
 use Rattle.qc_plan_command.specs.declared.answer.Planned.{Planned}
@@ -46,6 +48,20 @@ pub record TellsPlan (inst : InstanceView) (done : DoneView) (told : Planned) : 
   pub given : told.given ≡ done.given
   pub safe : MovesSafely inst.turn inst sched told.motion
   pub reread : IsReread inst sched
+
+-- what is told of a plan holds by itself, over a shelf that tells nothing too: cranes may follow its schedule, with this
+-- turn, it ends then, and its motion is safe; none that they may follow ends before the bound
+pub record IsSoundPlan (asked : Turn) (told : Planned) : Type 0 where
+  pub turn_told : told.inst.turn ≡ asked
+  pub allowed : IsAllowed told.inst told.sched
+  pub end : told.end ≡ ends told.inst told.sched
+  pub safe : MovesSafely asked told.inst told.sched told.motion
+  pub none_earlier : NoneEarlier told.inst (Least told.bound)
+  pub by : told.bound ≤ told.end
+
+abbrev pub IsSoundAnswer : Turn → PlanAnswer → Type 0
+IsSoundAnswer asked (answer.Planned told) = IsSoundPlan asked told
+IsSoundAnswer asked _ = Unit {0}
 
 -- what an answer tells of a search
 abbrev pub Tells : InstanceView → DoneView → PlanAnswer → Type 0

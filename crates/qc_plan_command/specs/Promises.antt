@@ -21,7 +21,7 @@ use Rattle.qc_plan_command.specs.declared.answer.Planned.{Planned}
 use Rattle.qc_plan_command.specs.declared.answer.PlanAnswer.TheVariants as answer
 use Rattle.qc_plan_command.specs.Account.{IsLeft, IsPlanning, IsWritten}
 use Rattle.qc_run.specs.Inputs.{Planning}
-use Rattle.qc_plan_command.specs.Found.{IsByTightEnd}
+use Rattle.qc_plan_command.specs.Found.{IsByTightEnd, IsSoundPlan}
 use Rattle.qc_plan_command.specs.Reports.{IsPlanPrinted, infeasible_text, plan_prints_part, unplanned_text}
 
 -- the search that is due knows a schedule: its tree and the plan of that schedule are written, all other files
@@ -60,6 +60,12 @@ pub record IsUnplannedTold (asked : Planning) (held : Files) (now : Option Files
   pub no_own : written.search.own ≡ None
   pub report : Prints (unplanned_text bound branched) before.written after.written
   pub spent : branched ≡ asked.nodes
+
+-- a plan was told that holds by itself
+pub record IsSoundTold (asked : Planning) (before after : View) : Type 0 where
+  pub told : Planned
+  pub sound : IsSoundPlan asked.inputs.turn told
+  pub report : IsPlanPrinted told before.written after.written
 
 -- no crane reaches the task
 abbrev pub IsOutOfReach : InstanceView → ℕ → Type 0
@@ -118,6 +124,10 @@ pub record PlanPromises (asked : Planning) (before after out_before out_after : 
       → IfSome before.files (λ held. IsBudgetTold asked held after.files out_before out_after)
   pub plan_none : ended ≡ status.BudgetNone
       → IfSome before.files (λ held. IsUnplannedTold asked held after.files out_before out_after)
+  -- a plan that is told holds by itself, whether the shelf tells its files or not
+  pub plan_sound : (ended ≡ status.Optimal) ⊎ (ended ≡ status.BudgetPlan) → IsSoundTold asked out_before out_after
+  -- no file that was begun is left behind the end of a search
+  pub none_left : IsSearchEnd ended → after.made ≡ None
   -- Broken
   pub plan_broken : ended ≡ status.Broken
       → IfSome before.files (λ held. IsOwnBrokenTold asked held out_before out_after)

@@ -9,17 +9,19 @@ ghost use Rattle.qc_plan_command.specs.InitialPlan.{IsInitialPlan, IsGoing};
 ghost use Rattle.qc_search.specs.Outcome.{WasOffered};
 
 use crate::nowhere::Nowhere;
+use crate::telling::{first_found, own_end};
 use crate::way::way_of;
+use qc_io::Shelf;
 use qc_model::{Instance, Schedule, Turn, copy, direction_of};
 use qc_num::OutOfMemory;
-use qc_search::{EFFORT, Search};
-use qc_sweep::{Going, first_plan};
+use qc_search::Search;
+use qc_sweep::Going;
 use std::alloc::Global;
 
 /// What is known ahead of a search, or is to be searched ahead of it. All memory is taken.
 #[derive(Drop)]
 pub(crate) enum InitialPlan {
-    /// Where cranes go one way: what the sweeps found.
+    /// Where cranes go one way: what sweeps and local searches found.
     Swept(Option<Going>),
     /// Where they go as they like: a search for a plan that goes one way.
     OneWay(Search),
@@ -40,53 +42,58 @@ fn offer_own(search: &mut Search, inst: &Instance, own: Option<&Schedule>)
 }
 
 /// A search for a plan that goes one way, with at most so many branchings. It is offered the planner's own, where that
-/// goes one way, and what sweeps find.
-fn one_way_search(
+/// goes one way, and what sweeps and local searches find.
+fn one_way_search<S: Shelf>(
     alloc: Global,
     inst: &Instance,
     own: Option<&Schedule>,
     nodes: u32,
+    shelf: &mut S,
 ) -> Result<Search, OutOfMemory>
     requires nodes { nodes ≤ most_branchings }
     requires own { IfSome own (λ sched. IsJudgeable inst.now sched.now) }
-    ensures { IfOk result (λ search. search.inst ≡ with_turn inst.now OneWay) }
+    ensures is { IfOk result (λ search. search.inst ≡ with_turn inst.now OneWay) }
+    ensures stays { S.Sink.view shelf.new ≡ S.Sink.view shelf.old }
 {
+    let own_end = own_end(inst, own);
     let inst = copy(alloc, inst)?.with_turn(Turn::OneWay);
     let Ok(mut search) = Search::open(alloc, &inst, nodes) else {
         drop(inst);
         return Err(OutOfMemory);
     };
     offer_own(&mut search, &inst, own);
-    let Ok(swept) = first_plan(alloc, &inst, EFFORT) else {
+    let Ok(found) = first_found(alloc, &inst, own_end, shelf) else {
         drop(search);
         drop(inst);
         return Err(OutOfMemory);
     };
-    if let Some(found) = swept {
+    if let Some(found) = found {
         search.offer(&found.sched, found.way);
     }
     Ok(search)
 }
 
 /// What is known or to be searched ahead of a search with at most so many branchings; the planner's own takes part in a
-/// search for one that goes one way.
-pub(crate) fn ahead_of(
+/// search for one that goes one way. When the best plan ends is told as it is found.
+pub(crate) fn ahead_of<S: Shelf>(
     alloc: Global,
     inst: &Instance,
     own: Option<&Schedule>,
     nodes: u32,
+    shelf: &mut S,
 ) -> Result<InitialPlan, OutOfMemory>
     requires nodes { nodes ≤ most_branchings }
     requires own { IfSome own (λ sched. IsJudgeable inst.now sched.now) }
-    ensures { IfOk result (IsInitialPlan inst.now) }
+    ensures is { IfOk result (IsInitialPlan inst.now) }
+    ensures stays { S.Sink.view shelf.new ≡ S.Sink.view shelf.old }
 {
     match inst.turn() {
         Turn::OneWay => {
-            let swept = first_plan(alloc, inst, EFFORT)?;
-            Ok(InitialPlan::Swept(swept))
+            let found = first_found(alloc, inst, own_end(inst, own), shelf)?;
+            Ok(InitialPlan::Swept(found))
         }
         Turn::Free => {
-            let search = one_way_search(alloc, inst, own, nodes)?;
+            let search = one_way_search(alloc, inst, own, nodes, shelf)?;
             Ok(InitialPlan::OneWay(search))
         }
     }

@@ -1,5 +1,5 @@
 //! The command that plans.
-ghost use Rattle.std.specs.Prelude.{◌≡◌, ◌≤◌, IfOk, IfSome, IsSome, Ok, OnErr};
+ghost use Rattle.std.specs.Prelude.{◌≡◌, ◌≤◌, IfOk, IfSome, IsSome, None, Ok, OnErr, OnOk};
 ghost use Rattle.qc_io.specs.Writes.{Counts};
 ghost use Rattle.qc_model.specs.Instance.{Valid};
 ghost use Rattle.qc_model.specs.Numbers.{most_branchings};
@@ -19,6 +19,7 @@ use crate::answer::PlanAnswer;
 use crate::found::answer_of;
 use crate::opened::{Resources, open_for};
 use crate::report::report;
+use crate::telling::tell;
 use crate::way::own_way;
 use qc_io::{Shelf, Sink, WriteFault};
 use qc_model::Instance;
@@ -27,7 +28,7 @@ use qc_search::{Done, Search, store_best, store_tree};
 use std::alloc::Global;
 
 /// Runs the search and makes the tree's file. Where a schedule is found ahead of it, it is offered that. Whoever waits is
-/// told what is known, before anything is found and before the search.
+/// told what is known before it.
 fn run_search<S: Shelf>(
     asked: &PlanAsked<'_>,
     inst: &Instance,
@@ -41,10 +42,11 @@ fn run_search<S: Shelf>(
         (S.Sink.view shelf.old).files (S.Sink.view shelf.new).files result }
     ensures counts { Counts (S.Sink.view shelf.old).faults (S.Sink.view shelf.new).faults result }
     ensures read_faults { (S.Sink.view shelf.new).read_faults ≡ (S.Sink.view shelf.old).read_faults }
+    ensures unmade { OnOk result ((S.Sink.view shelf.new).made ≡ None) }
 {
-    shelf.tell(search.outlook());
     ahead.offer_to(inst, &mut search);
-    shelf.tell(search.outlook());
+    let known = search.outlook();
+    tell(&search, known, shelf);
     store_tree(search, asked.tree, shelf)
 }
 
@@ -62,6 +64,7 @@ fn store_search<S: Shelf>(
     requires due { ComesTo (own_job_due (planning asked.now).inputs.own) (planning asked.now).inputs
         (S.Sink.view shelf.old).files (Ok job.now) }
     requires allowed { IfSome job.now.own (IsAllowed job.now.inst) }
+    requires turn { job.now.inst.turn ≡ (planning asked.now).inputs.turn }
     requires ahead { IsInitialPlan job.now.inst ahead }
     ensures stored { IfOk result
         (IsStored (planning asked.now) (S.Sink.view shelf.old) (S.Sink.view shelf.new) job.now.inst) }
@@ -95,6 +98,7 @@ fn plan_job<S: Shelf>(
     requires due { ComesTo (own_job_due (planning asked.now).inputs.own) (planning asked.now).inputs
         (S.Sink.view shelf.old).files (Ok job) }
     requires allowed { IfSome job.own (IsAllowed job.inst) }
+    requires turn { job.inst.turn ≡ (planning asked.now).inputs.turn }
     ensures serves { IsPlanning (planning asked.now) (S.Sink.view shelf.old) (S.Sink.view shelf.new) (Ok result) }
     ensures ready { CanBeTold result }
     ensures never_falls { (S.Sink.view shelf.old).faults ≤ (S.Sink.view shelf.new).faults }
@@ -133,7 +137,7 @@ fn serve<S: Shelf>(alloc: Global, asked: &PlanAsked<'_>, shelf: &mut S) -> Resul
             return Ok(PlanAnswer::Broken(broken));
         }
     };
-    let Ok(opened) = open_for(alloc, &job.inst, job.own.as_ref(), way, asked.nodes) else {
+    let Ok(opened) = open_for(alloc, &job.inst, job.own.as_ref(), way, asked.nodes, shelf) else {
         drop(job);
         return Err(Stop::OutOfMemory);
     };

@@ -14,6 +14,7 @@ mod nowhere;
 mod opened;
 mod report;
 mod room;
+mod telling;
 mod way;
 
 pub use answer::{Motion, PlanAnswer, Planned};

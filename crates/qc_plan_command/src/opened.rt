@@ -1,5 +1,5 @@
 //! What is taken for a search, before anything is written.
-ghost use Rattle.std.specs.Prelude.{◌≤◌, IfOk, IfSome, option_map};
+ghost use Rattle.std.specs.Prelude.{◌≡◌, ◌≤◌, IfOk, IfSome, option_map};
 ghost use Rattle.qc_model.specs.Judge.{IsJudgeable};
 ghost use Rattle.qc_model.specs.Numbers.{most_branchings};
 ghost use Rattle.qc_plan_command.specs.Resources.{IsOpened, IsSearchFor};
@@ -7,6 +7,7 @@ ghost use Rattle.qc_starts.specs.Tight.{IsSeenSo};
 
 use crate::ahead::{InitialPlan, ahead_of};
 use crate::room::{TrackBuffer, room_for};
+use qc_io::Shelf;
 use qc_model::{Direction, Instance, Schedule};
 use qc_num::OutOfMemory;
 use qc_search::Search;
@@ -41,21 +42,24 @@ fn search_for(
     Ok(search)
 }
 
-/// What a plan of the instance takes, with at most so many branchings, where the planner has this schedule or none.
-pub(crate) fn open_for(
+/// What a plan of the instance takes, with at most so many branchings, where the planner has this schedule or none. When the
+/// best plan ends is told as it is found.
+pub(crate) fn open_for<S: Shelf>(
     alloc: Global,
     inst: &Instance,
     own: Option<&Schedule>,
     way: Direction,
     nodes: u32,
+    shelf: &mut S,
 ) -> Result<Resources, OutOfMemory>
     requires nodes { nodes ≤ most_branchings }
     requires own { IfSome own (λ sched. IsJudgeable inst.now sched.now) }
     requires seen { IfSome own (λ sched. IsSeenSo inst.now.turn inst.now sched.now way) }
-    ensures { IfOk result (IsOpened inst.now nodes (option_map (λ sched. sched.now) own.entry)) }
+    ensures is { IfOk result (IsOpened inst.now nodes (option_map (λ sched. sched.now) own.entry)) }
+    ensures stays { S.Sink.view shelf.new ≡ S.Sink.view shelf.old }
 {
     let room = room_for(alloc, inst)?;
-    let Ok(ahead) = ahead_of(alloc, inst, own, nodes) else {
+    let Ok(ahead) = ahead_of(alloc, inst, own, nodes, shelf) else {
         drop(room);
         return Err(OutOfMemory);
     };

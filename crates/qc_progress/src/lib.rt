@@ -1,5 +1,5 @@
-//! A shelf that tells at a terminal how far the search has come whose tree is written to it:
-//! branchings, best end, bound.
+//! A shelf that tells at a terminal what the first plan comes to, and how far the search has come whose
+//! tree is written to it: branchings, best end, bound.
 //!
 //! It has the meaning of the shelf that it wraps (`Progress`). What it tells is promised by
 //! nothing.

@@ -29,10 +29,11 @@ impl<'a, S: Shelf, R: Eprint> Progress<'a, S, R> {
         }
     }
 
-    /// The shelf.
-    pub fn into_shelf(self) -> S
+    /// The shelf. The line is cleared where it still stands.
+    pub fn into_shelf(mut self) -> S
         ensures { result ≡ self.entry.shelf }
     {
+        self.clear();
         let Progress {
             shelf,
             rt: _,

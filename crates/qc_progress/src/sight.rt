@@ -16,7 +16,7 @@ const DIGITS: usize = 20;
 pub(crate) struct ProgressLine {
     /// How many branchings it has made.
     branchings: u32,
-    /// How many it may make.
+    /// How many it may make: none while a plan is looked for with which a search begins.
     limit: u32,
     /// No later than this the best plan ends that is known.
     end: Option<Tick>,
@@ -74,9 +74,12 @@ impl ProgressLine {
 
 impl fmt::Display for ProgressLine {
     fn fmt<W: fmt::Write>(&self, f: &mut fmt::Formatter<W>) -> fmt::Result {
-        let branchings = Grouped(u64::from(self.branchings));
         let end = Named("end", self.end);
         let bound = Named("bound", self.bound);
+        if self.limit == 0 {
+            return write!(f, "first plan{end}{bound}");
+        }
+        let branchings = Grouped(u64::from(self.branchings));
         write!(f, "{branchings} branchings{end}{bound}")
     }
 }
@@ -149,6 +152,24 @@ mod tests {
         assert!(rt; !sight.sees(b"O 17 18\n"));
         assert!(rt; !sight.sees(b"W 26999\n"));
         assert!(rt; is_told(&rt, sight, "12,035 branchings, end 27,150, bound 26,454"));
+    }
+
+    #[test]
+    fn tells_what_the_first_plan_comes_to(rt: HostRuntime) {
+        let mut outlook = Outlook {
+            limit: 0,
+            end: None,
+            bound: Some(26_454),
+        };
+        assert!(rt; is_told(&rt, ProgressLine::new(outlook), "first plan, bound 26,454"));
+        outlook.end = Some(28_100);
+        assert!(rt;
+            is_told(
+                &rt,
+                ProgressLine::new(outlook),
+                "first plan, end 28,100, bound 26,454"
+            )
+        );
     }
 
     #[test]

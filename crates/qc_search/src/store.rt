@@ -1,5 +1,5 @@
 //! The storing of a search: its tree, and then the plan of the best schedule. Each file is whole or as it was.
-ghost use Rattle.std.specs.Prelude.{◌≡◌, ◌⊎◌, Some, IfOk, IfSome, OnOk, OnErr};
+ghost use Rattle.std.specs.Prelude.{◌≡◌, ◌⊎◌, None, Some, IfOk, IfSome, OnOk, OnErr};
 ghost use Rattle.std.specs.FinMap.{insert};
 ghost use Rattle.qc_gantt.specs.Plan.{HasShortEnds};
 ghost use Rattle.qc_gantt.specs.PlanText.{plan_text};
@@ -22,6 +22,7 @@ pub fn store_tree<S: Shelf>(search: Search, name: &str, shelf: &mut S) -> Result
     ensures err { OnErr result (IfSome (S.Sink.view shelf.old).files (λ held.
         IsTreeLeft search name.now held (S.Sink.view shelf.new).files)) }
     ensures sound { IfOk result (IsSound search) }
+    ensures unmade { OnOk result ((S.Sink.view shelf.new).made ≡ None) }
     ensures counts { Counts (S.Sink.view shelf.old).faults (S.Sink.view shelf.new).faults result }
     ensures read_faults { (S.Sink.view shelf.new).read_faults ≡ (S.Sink.view shelf.old).read_faults }
 {
@@ -48,6 +49,7 @@ fn store_plan<S: Shelf>(
         ((S.Sink.view shelf.new).files ≡ Some held)
         ⊎ ((S.Sink.view shelf.new).files ≡ Some (insert held name.now (plan_text inst.now sched.now))))) }
     ensures reread { OnOk result (HasShortEnds inst.now sched.now → IsReread inst.now sched.now) }
+    ensures unmade { OnOk result ((S.Sink.view shelf.new).made ≡ None) }
     ensures counts { Counts (S.Sink.view shelf.old).faults (S.Sink.view shelf.new).faults result }
     ensures read_faults { (S.Sink.view shelf.new).read_faults ≡ (S.Sink.view shelf.old).read_faults }
 {
@@ -72,6 +74,7 @@ pub fn store_best<S: Shelf>(
         ⊎ ((S.Sink.view shelf.new).files ≡ Some (with_plan held name.now inst.now done.now.best)))) }
     ensures reread { OnOk result (IfSome done.now.best (λ sched.
         HasShortEnds inst.now sched → IsReread inst.now sched)) }
+    ensures unmade { (S.Sink.view shelf.old).made ≡ None → OnOk result ((S.Sink.view shelf.new).made ≡ None) }
     ensures counts { Counts (S.Sink.view shelf.old).faults (S.Sink.view shelf.new).faults result }
     ensures read_faults { (S.Sink.view shelf.new).read_faults ≡ (S.Sink.view shelf.old).read_faults }
 {

@@ -2,7 +2,7 @@
 
 ghost use Rattle.std.specs.Prelude.{◌≡◌, ◌≤◌, ◌<◌, length, IfOk, IfSome};
 ghost use Rattle.qc_model.specs.Seen.{seen};
-ghost use Rattle.qc_sweep.specs.Hunts.{AreParts};
+ghost use Rattle.qc_sweep.specs.Hunts.{AreParts, IsSwept};
 ghost use Rattle.qc_sweep.specs.Plans.{IsFirstPlan};
 
 use crate::going::Going;
@@ -11,6 +11,7 @@ use crate::hunt::{Hunt, Parts, Start, trial};
 use crate::local::improved;
 use crate::schedule::{better, end_of, schedule_of};
 use crate::split::split;
+use crate::swept::Swept;
 use qc_dist::in_reach;
 use qc_model::{Direction, Instance, mirror};
 use qc_num::{OutOfMemory, Tick};
@@ -178,15 +179,15 @@ fn is_open(hunt: &Hunt) -> bool {
     }
 }
 
-/// What `first_plan` answers where each task is in the reach of a crane, with both parts.
+/// What the splits and the sweeps come to where each task is in the reach of a crane, with both parts.
 fn plan_of(
     alloc: Global,
     inst: &Instance,
     parts: &Parts,
     effort: usize,
-) -> Result<Option<Going>, OutOfMemory>
+) -> Result<Hunt, OutOfMemory>
     requires { AreParts inst.now parts.now }
-    ensures { IfOk result (λ found. IfSome found (IsFirstPlan inst.now)) }
+    ensures { IfOk result (λ hunt. IfSome hunt.best (IsFirstPlan inst.now)) }
 {
     let mut hunt = begin(alloc, inst, parts, effort)?;
     let grain = grain(inst);
@@ -195,8 +196,7 @@ fn plan_of(
             round(alloc, inst, parts, &mut hunt, grain, width)?;
         }
     }
-    let states = effort.saturating_sub(hunt.effort);
-    improve(alloc, inst, parts, hunt, states)
+    Ok(hunt)
 }
 
 /// The schedule that a further local search of a way comes to.
@@ -218,7 +218,7 @@ fn local_plan(
 
 /// What local searches make of what the splits and the sweeps came to: a short one of each way, and a long one of that
 /// which is better then.
-fn improve(
+pub(crate) fn improve(
     alloc: Global,
     inst: &Instance,
     parts: &Parts,
@@ -242,11 +242,11 @@ fn improve(
     Ok(better(inst, hunt.best, found))
 }
 
-/// A schedule for a search to begin with, found with at most so much effort: of so many states of the
-/// sweeps the children are made. `None` says nothing.
-pub fn first_plan(alloc: Global, inst: &Instance, effort: u32) -> Result<Option<Going>, OutOfMemory>
+/// What sweeps come to with at most so much effort: of so many states of the sweeps the children are made. `None` says
+/// nothing.
+pub fn run_sweeps(alloc: Global, inst: &Instance, effort: u32) -> Result<Option<Swept>, OutOfMemory>
     requires { effort ≤ 10000000 }
-    ensures { IfOk result (λ found. IfSome found (IsFirstPlan inst.now)) }
+    ensures { IfOk result (λ found. IfSome found (IsSwept inst.now)) }
 {
     if !are_reached(inst) {
         return Ok(None);
@@ -254,5 +254,23 @@ pub fn first_plan(alloc: Global, inst: &Instance, effort: u32) -> Result<Option<
     let Some(parts) = parts_of(alloc, inst)? else {
         return Ok(None);
     };
-    plan_of(alloc, inst, &parts, effort as usize)
+    let effort = effort as usize;
+    let hunt = plan_of(alloc, inst, &parts, effort)?;
+    let states = effort.saturating_sub(hunt.effort);
+    Ok(Some(Swept {
+        parts,
+        hunt,
+        states,
+    }))
+}
+
+/// A schedule for a search to begin with, found with at most so much effort. `None` says nothing.
+pub fn first_plan(alloc: Global, inst: &Instance, effort: u32) -> Result<Option<Going>, OutOfMemory>
+    requires { effort ≤ 10000000 }
+    ensures { IfOk result (λ found. IfSome found (IsFirstPlan inst.now)) }
+{
+    match run_sweeps(alloc, inst, effort)? {
+        Some(swept) => swept.improved(alloc, inst),
+        None => Ok(None),
+    }
 }

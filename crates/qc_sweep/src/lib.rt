@@ -19,9 +19,11 @@ mod schedule;
 mod shares;
 mod split;
 mod sweep;
+mod swept;
 mod trail;
 mod tries;
 mod walk;
 
-pub use first::first_plan;
+pub use first::{first_plan, run_sweeps};
 pub use going::Going;
+pub use swept::Swept;

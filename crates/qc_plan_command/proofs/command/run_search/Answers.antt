@@ -11,6 +11,6 @@ returns-clause-searched g c =
     was_run c.args.inst.now c.args.asked.now.nodes now
     (c.offer_to.ensures.stays ∙ ap (λ (s : SearchView). record s { first = now.first }) c.requires.search)
     c.offer_to.ensures.offered.0 c.args.search.first c.offer_to.ensures.offered.1 c.args.asked.now.tree.now
-    (view c.args.shelf.now).files (view c.tell-2.new.self).files (view c.store_tree.new.shelf).files
-    (ap (λ (v : View). v.files) (c.tell-2.ensures ∙ c.tell.ensures))
+    (view c.args.shelf.now).files (view c.tell.new.shelf).files (view c.store_tree.new.shelf).files
+    (ap (λ (v : View). v.files) c.tell.ensures)
     c.store_tree.result c.store_tree.ensures.ok c.store_tree.ensures.err c.store_tree.ensures.sound

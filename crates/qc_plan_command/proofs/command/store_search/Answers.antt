@@ -1,7 +1,7 @@
 use Rattle.std.proofs.Common.{◌≡◌, true, false, arith, sym, ◌∙◌, is_err}
 use Rattle.qc_io.proofs.Pieces.{on_err}
 use Rattle.qc_run.specs.Inputs.{planning}
-use Rattle.qc_plan_command.proofs.FoundLemmas.{rereads}
+use Rattle.qc_plan_command.proofs.FoundLemmas.{rereads, sound_answer}
 use Rattle.qc_plan_command.proofs.StoreLemmas.{at_begin, at_end, at_plan, at_tree, by_err, by_ok, writes_told}
 use Rattle.qc_plan_command.proofs.command.store_search.Goals as goal
 
@@ -73,7 +73,10 @@ returns-in-Ok-clause-stored g c =
             (at_end (planning c.args.asked.now) job c.requires.allowed (view c.args.shelf.now).files
             (view c.create.new.self).files c.requires.due c.create.ensures.files_stay c.requires.valid
             c.args.search c.requires.search (view c.run_search.new.shelf).files (view c.store_best.new.shelf).files
-            _ searched done a searched.ok c.in-Ok.ensures.ok tells),
+            _ searched done a searched.ok c.in-Ok.ensures.ok tells)
+            (c.in-Ok.ensures.unmade c.in_ok-done.ensures.unmade)
+            (sound_answer job.inst done (planning c.args.asked.now).inputs.turn c.requires.turn sound.none_earlier
+            sound.tight a tells),
         c.in-Ok.ensures.read_faults ∙ c.run_search.ensures.read_faults ∙ c.create.ensures.read_faults_stay,
       );
     }
