@@ -15,6 +15,9 @@ use std::alloc::Global;
 /// How many changes are tried between two looks at what was seen.
 const LOOK: u32 = 50;
 
+/// Least starts are counted as a try for so many pairs of tasks.
+const PAIRS_A_TRY: usize = 16;
+
 /// When the last task ends.
 fn last_end(starts: &Starts, inst: &Instance) -> Tick
     requires inst { starts.now.inst ≡ inst.now }
@@ -45,7 +48,7 @@ fn end_by(starts: &mut Starts, inst: &Instance, cranes: &[Option<u16>]) -> Tick
     end
 }
 
-/// Tries changes, and looks at the best cranes that were seen: when the best of all are done now.
+/// Looks at the cranes that were seen: when the best of all are done now.
 fn look(
     walk: &mut Walk,
     starts: &mut Starts,
@@ -57,9 +60,6 @@ fn look(
     ensures starts { starts.new.inst ≡ inst.now }
     ensures none { (j : ℕ) → assigned starts.new.decisions j ≡ None }
 {
-    if !walk.go(LOOK, end)? {
-        return Ok(end);
-    }
     let seen = end_by(starts, inst, walk.seen());
     if seen < end {
         walk.take_seen()?;
@@ -68,24 +68,31 @@ fn look(
     Ok(end)
 }
 
-/// The best cranes of a part that a local search comes to which begins with these and looks so often at what it has seen.
+/// The best cranes of a part that a local search comes to which begins with these and takes no longer than so many tries.
 /// None are looked for that are done before the low tick.
 pub(crate) fn improved(
     alloc: Global,
     part: &UpwardView,
     start: &Start,
     low: Tick,
-    looks: usize,
+    tries: usize,
 ) -> Result<Start, OutOfMemory> {
     let inst = part.instance();
     let mut starts = Starts::open(alloc, inst)?;
     let mut walk = Walk::open(alloc, part, start.cranes.as_slice(), low)?;
     let mut end = start.end;
-    for _ in 0..looks {
-        if end <= low {
+    let tasks = inst.task_count() as usize;
+    let tries_a_look = tasks * tasks / PAIRS_A_TRY;
+    let mut left = tries;
+    for _ in 0..tries / LOOK as usize {
+        if end <= low || left == 0 {
             break;
         }
-        end = look(&mut walk, &mut starts, inst, end)?;
+        left = left.saturating_sub(LOOK as usize);
+        if walk.go(LOOK, end)? {
+            left = left.saturating_sub(tries_a_look);
+            end = look(&mut walk, &mut starts, inst, end)?;
+        }
     }
     Ok(Start {
         cranes: walk.into_best(),
