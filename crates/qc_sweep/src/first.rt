@@ -23,9 +23,11 @@ const LATEST: Tick = 68_719_476_736;
 /// At the beginning a later end isn't looked at.
 const MOST_LOW: Tick = 17_179_869_184;
 
-/// The local searches together try one change for so many states of which the sweeps made the children, times the
-/// tasks: so they take no longer than the sweeps, whose states cost more the more tasks there are.
-const STATES_A_TRY: usize = 16;
+/// For each state of which the sweeps made the children the local searches together try one change for so many hatches,
+/// and at most so many changes. So they take no longer than the sweeps, whose states cost more the more hatches there are.
+const HATCHES_A_TRY: usize = 3;
+
+const MOST_TRIES_A_STATE: usize = 10;
 
 /// How many states a layer keeps, round by round.
 const WIDTHS: [usize; 4] = [16, 64, 256, 1024];
@@ -176,6 +178,12 @@ fn is_open(hunt: &Hunt) -> bool {
     }
 }
 
+/// How many changes the local searches together try where the sweeps made the children of so many states.
+fn tries_for(parts: &Parts, states: usize) -> usize {
+    let tries = parts.up.hatches().len() / HATCHES_A_TRY;
+    states.saturating_mul(tries.min(MOST_TRIES_A_STATE))
+}
+
 /// What `first_plan` answers where each task is in the reach of a crane, with both parts.
 fn plan_of(
     alloc: Global,
@@ -194,8 +202,7 @@ fn plan_of(
         }
     }
     let states = effort.saturating_sub(hunt.effort);
-    let tries = states.saturating_mul(inst.task_count() as usize) / STATES_A_TRY;
-    improve(alloc, inst, parts, hunt, tries)
+    improve(alloc, inst, parts, hunt, tries_for(parts, states))
 }
 
 /// The schedule that a further local search of a way comes to.

@@ -48,24 +48,35 @@ fn end_by(starts: &mut Starts, inst: &Instance, cranes: &[Option<u16>]) -> Tick
     end
 }
 
-/// Looks at the cranes that were seen: when the best of all are done now.
+/// How many tries least starts count as.
+fn tries_of_starts(inst: &Instance) -> usize {
+    let tasks = inst.task_count() as usize;
+    tasks * tasks / PAIRS_A_TRY
+}
+
+/// Tries changes, and looks at the best cranes that were seen: when the best of all are done now, and as how many tries
+/// all that counts.
 fn look(
     walk: &mut Walk,
     starts: &mut Starts,
     inst: &Instance,
     end: Tick,
-) -> Result<Tick, OutOfMemory>
+) -> Result<(Tick, usize), OutOfMemory>
     requires starts { starts.old.inst ≡ inst.now }
     requires none { (j : ℕ) → assigned starts.old.decisions j ≡ None }
     ensures starts { starts.new.inst ≡ inst.now }
     ensures none { (j : ℕ) → assigned starts.new.decisions j ≡ None }
 {
+    if !walk.go(LOOK, end)? {
+        return Ok((end, LOOK as usize));
+    }
+    let tries = tries_of_starts(inst).saturating_add(LOOK as usize);
     let seen = end_by(starts, inst, walk.seen());
     if seen < end {
         walk.take_seen()?;
-        return Ok(seen);
+        return Ok((seen, tries));
     }
-    Ok(end)
+    Ok((end, tries))
 }
 
 /// The best cranes of a part that a local search comes to which begins with these and takes no longer than so many tries.
@@ -81,18 +92,14 @@ pub(crate) fn improved(
     let mut starts = Starts::open(alloc, inst)?;
     let mut walk = Walk::open(alloc, part, start.cranes.as_slice(), low)?;
     let mut end = start.end;
-    let tasks = inst.task_count() as usize;
-    let tries_a_look = tasks * tasks / PAIRS_A_TRY;
     let mut left = tries;
     for _ in 0..tries / LOOK as usize {
         if end <= low || left == 0 {
             break;
         }
-        left = left.saturating_sub(LOOK as usize);
-        if walk.go(LOOK, end)? {
-            left = left.saturating_sub(tries_a_look);
-            end = look(&mut walk, &mut starts, inst, end)?;
-        }
+        let (earliest, taken) = look(&mut walk, &mut starts, inst, end)?;
+        end = earliest;
+        left = left.saturating_sub(taken);
     }
     Ok(Start {
         cranes: walk.into_best(),
