@@ -24,11 +24,11 @@ const LATEST: Tick = 68_719_476_736;
 /// At the beginning a later end isn't looked at.
 const MOST_LOW: Tick = 17_179_869_184;
 
-/// A local search of a way looks once at what it has seen for so many states of which the sweeps made the children, and
-/// a further one of the better way for so many: so both together take no longer than the sweeps.
-const STATES_A_LOOK: usize = 32;
+/// For each state of which the sweeps made the children the local searches together try one change for so many hatches,
+/// and at most so many changes. So they take no longer than the sweeps, whose states cost more the more hatches there are.
+const HATCHES_A_TRY: usize = 3;
 
-const STATES_A_FURTHER_LOOK: usize = 10;
+const MOST_TRIES_A_STATE: usize = 10;
 
 /// How many states a layer keeps, round by round.
 const WIDTHS: [usize; 4] = [16, 64, 256, 1024];
@@ -179,6 +179,12 @@ fn is_open(hunt: &Hunt) -> bool {
     }
 }
 
+/// How many changes the local searches together try where the sweeps made the children of so many states.
+fn tries_for(parts: &Parts, states: usize) -> usize {
+    let tries = parts.up.hatches().len() / HATCHES_A_TRY;
+    states.saturating_mul(tries.min(MOST_TRIES_A_STATE))
+}
+
 /// What the splits and the sweeps come to where each task is in the reach of a crane, with both parts.
 fn plan_of(
     alloc: Global,
@@ -207,37 +213,37 @@ fn local_plan(
     way: Direction,
     start: &Start,
     low: Tick,
-    looks: usize,
+    tries: usize,
 ) -> Result<Option<Going>, OutOfMemory>
     requires { part.now ≡ seen inst.now way }
     ensures { IfOk result (λ found. IfSome found (IsFirstPlan inst.now)) }
 {
-    let last = improved(alloc, part, start, low, looks)?;
+    let last = improved(alloc, part, start, low, tries)?;
     schedule_of(alloc, inst, way, part.instance(), last.cranes.as_slice())
 }
 
-/// What local searches make of what the splits and the sweeps came to: a short one of each way, and a long one of that
-/// which is better then.
+/// What local searches with so many tries together make of what the splits and the sweeps came to: one of each way with
+/// a quarter, and one of the way that is better then with the rest.
 pub(crate) fn improve(
     alloc: Global,
     inst: &Instance,
     parts: &Parts,
     hunt: Hunt,
-    states: usize,
+    tries: usize,
 ) -> Result<Option<Going>, OutOfMemory>
     requires parts { AreParts inst.now parts.now }
     requires best { IfSome hunt.best (IsFirstPlan inst.now) }
     ensures { IfOk result (λ found. IfSome found (IsFirstPlan inst.now)) }
 {
     let low = hunt.low();
-    let looks = states / STATES_A_LOOK;
-    let up = improved(alloc, &parts.up, &hunt.up, low, looks)?;
-    let down = improved(alloc, &parts.down, &hunt.down, low, looks)?;
-    let looks = states / STATES_A_FURTHER_LOOK;
+    let quarter = tries / 4;
+    let up = improved(alloc, &parts.up, &hunt.up, low, quarter)?;
+    let down = improved(alloc, &parts.down, &hunt.down, low, quarter)?;
+    let rest = tries / 2;
     let found = if up.end <= down.end {
-        local_plan(alloc, inst, &parts.up, Direction::Up, &up, low, looks)?
+        local_plan(alloc, inst, &parts.up, Direction::Up, &up, low, rest)?
     } else {
-        local_plan(alloc, inst, &parts.down, Direction::Down, &down, low, looks)?
+        local_plan(alloc, inst, &parts.down, Direction::Down, &down, low, rest)?
     };
     Ok(better(inst, hunt.best, found))
 }
@@ -256,12 +262,8 @@ pub fn run_sweeps(alloc: Global, inst: &Instance, effort: u32) -> Result<Option<
     };
     let effort = effort as usize;
     let hunt = plan_of(alloc, inst, &parts, effort)?;
-    let states = effort.saturating_sub(hunt.effort);
-    Ok(Some(Swept {
-        parts,
-        hunt,
-        states,
-    }))
+    let tries = tries_for(&parts, effort.saturating_sub(hunt.effort));
+    Ok(Some(Swept { parts, hunt, tries }))
 }
 
 /// A schedule for a search to begin with, found with at most so much effort. `None` says nothing.

@@ -13,6 +13,7 @@ mod grain;
 mod hunt;
 mod late;
 mod layer;
+mod lists;
 mod local;
 mod node;
 mod schedule;

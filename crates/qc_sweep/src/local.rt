@@ -15,6 +15,9 @@ use std::alloc::Global;
 /// How many changes are tried between two looks at what was seen.
 const LOOK: u32 = 50;
 
+/// Least starts are counted as a try for so many pairs of tasks.
+const PAIRS_A_TRY: usize = 16;
+
 /// When the last task ends.
 fn last_end(starts: &Starts, inst: &Instance) -> Tick
     requires inst { starts.now.inst ≡ inst.now }
@@ -45,47 +48,58 @@ fn end_by(starts: &mut Starts, inst: &Instance, cranes: &[Option<u16>]) -> Tick
     end
 }
 
-/// Tries changes, and looks at the best cranes that were seen: when the best of all are done now.
+/// How many tries least starts count as.
+fn tries_of_starts(inst: &Instance) -> usize {
+    let tasks = inst.task_count() as usize;
+    tasks * tasks / PAIRS_A_TRY
+}
+
+/// Tries changes, and looks at the best cranes that were seen: when the best of all are done now, and as how many tries
+/// all that counts.
 fn look(
     walk: &mut Walk,
     starts: &mut Starts,
     inst: &Instance,
     end: Tick,
-) -> Result<Tick, OutOfMemory>
+) -> Result<(Tick, usize), OutOfMemory>
     requires starts { starts.old.inst ≡ inst.now }
     requires none { (j : ℕ) → assigned starts.old.decisions j ≡ None }
     ensures starts { starts.new.inst ≡ inst.now }
     ensures none { (j : ℕ) → assigned starts.new.decisions j ≡ None }
 {
     if !walk.go(LOOK, end)? {
-        return Ok(end);
+        return Ok((end, LOOK as usize));
     }
+    let tries = tries_of_starts(inst).saturating_add(LOOK as usize);
     let seen = end_by(starts, inst, walk.seen());
     if seen < end {
         walk.take_seen()?;
-        return Ok(seen);
+        return Ok((seen, tries));
     }
-    Ok(end)
+    Ok((end, tries))
 }
 
-/// The best cranes of a part that a local search comes to which begins with these and looks so often at what it has seen.
+/// The best cranes of a part that a local search comes to which begins with these and takes no longer than so many tries.
 /// None are looked for that are done before the low tick.
 pub(crate) fn improved(
     alloc: Global,
     part: &UpwardView,
     start: &Start,
     low: Tick,
-    looks: usize,
+    tries: usize,
 ) -> Result<Start, OutOfMemory> {
     let inst = part.instance();
     let mut starts = Starts::open(alloc, inst)?;
     let mut walk = Walk::open(alloc, part, start.cranes.as_slice(), low)?;
     let mut end = start.end;
-    for _ in 0..looks {
-        if end <= low {
+    let mut left = tries;
+    for _ in 0..tries / LOOK as usize {
+        if end <= low || left == 0 {
             break;
         }
-        end = look(&mut walk, &mut starts, inst, end)?;
+        let (earliest, taken) = look(&mut walk, &mut starts, inst, end)?;
+        end = earliest;
+        left = left.saturating_sub(taken);
     }
     Ok(Start {
         cranes: walk.into_best(),

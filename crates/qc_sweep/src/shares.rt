@@ -1,5 +1,6 @@
 //! A crane for each task of a part, and when the cranes are done with them.
 
+use crate::lists::Lists;
 use qc_model::{MOST_CRANES, MOST_HATCHES};
 use qc_num::OutOfMemory;
 use qc_part::{Event, UpwardView};
@@ -14,7 +15,15 @@ struct Visit {
     along: i64,
     free: i64,
     crane: u16,
+    hatch: u8,
     work: i64,
+}
+
+/// What a crane does in all: the ticks of its tasks, and a bit for each hatch that has some of them.
+#[derive(Clone, Copy)]
+struct Sum {
+    work: i64,
+    hatches: u64,
 }
 
 /// A task by its hatch, along the ship, with its ticks and its crane.
@@ -41,7 +50,9 @@ pub(crate) struct Shares {
     numbers: [[u16; MOST_CRANES as usize]; MOST_HATCHES as usize],
     /// A bit for each visit that has work.
     busy: [u64; WORDS],
+    sums: [Sum; MOST_CRANES as usize],
     loads: Vec<Load>,
+    lists: Lists,
     fronts: [i64; MOST_CRANES as usize],
     changes: Vec<Change>,
     cranes: u16,
@@ -55,6 +66,7 @@ fn visit_of(event: &Event) -> Visit {
         along: event.along,
         free: event.free,
         crane: event.crane,
+        hatch: event.hatch,
         work: 0,
     }
 }
@@ -95,7 +107,12 @@ impl Shares {
             visits,
             numbers,
             busy: [0; WORDS],
+            sums: [Sum {
+                work: 0,
+                hatches: 0,
+            }; MOST_CRANES as usize],
             loads: loads_of(alloc, part)?,
+            lists: Lists::empty(alloc, part.instance().task_count())?,
             fronts: part.root().fronts,
             changes: Vec::new(alloc),
             cranes: part.instance().crane_count(),
@@ -173,8 +190,11 @@ impl Shares {
         visit.work = visit.work.saturating_add(ticks);
         let is_busy = visit.work > 0;
         if let Some(word) = self.busy.get_mut(number / 64) {
-            let bit = 1 << (number % 64);
-            *word = if is_busy { *word | bit } else { *word & !bit };
+            *word = with_bit(*word, number, is_busy);
+        }
+        if let Some(sum) = self.sums.get_mut(visit.crane as usize) {
+            sum.work = sum.work.saturating_add(ticks);
+            sum.hatches = with_bit(sum.hatches, visit.hatch as usize, is_busy);
         }
     }
 
@@ -190,6 +210,8 @@ impl Shares {
         };
         load.crane = crane;
         let ticks = load.ticks;
+        self.lists.take(before, task);
+        self.lists.add(crane, task);
         if let Some(from) = from {
             self.add(from, ticks.saturating_neg());
         }
@@ -224,23 +246,32 @@ impl Shares {
         }
     }
 
-    /// Whether a task's crane isn't below that of a task behind it in its hatch.
-    fn is_in_order(&self, task: u16) -> bool {
-        let (one, next) = (task as usize, task as usize + 1);
-        match (self.loads.get(one), self.loads.get(next)) {
-            (Some(one), Some(next)) => one.hatch != next.hatch || one.crane >= next.crane,
-            _ => true,
+    /// Whether a task may have a crane by that of the task ahead of it in its hatch and of that behind it, and is in its
+    /// reach.
+    pub(crate) fn may_go(&self, task: u16, crane: u16) -> bool {
+        let place = task as usize;
+        let Some(load) = self.loads.get(place) else {
+            return false;
+        };
+        let ahead = self.loads.get(place.wrapping_sub(1));
+        if ahead.is_some_and(|other| other.hatch == load.hatch && other.crane < crane) {
+            return false;
         }
+        let behind = self.loads.get(place.saturating_add(1));
+        if behind.is_some_and(|other| other.hatch == load.hatch && other.crane > crane) {
+            return false;
+        }
+        self.visit(task, crane).is_some()
     }
 
-    /// Whether the cranes don't rise along the phases of any hatch where something was changed.
-    pub(crate) fn is_allowed(&self) -> bool {
-        for change in self.changes.as_slice() {
-            if !self.is_in_order(change.task) || !self.is_in_order(change.task.saturating_sub(1)) {
-                return false;
-            }
-        }
-        true
+    /// How many tasks a crane has.
+    pub(crate) fn count_of(&self, crane: u16) -> usize {
+        self.lists.count(crane)
+    }
+
+    /// One of the tasks of a crane, by its number among them.
+    pub(crate) fn task_of(&self, crane: u16, number: usize) -> Option<u16> {
+        self.lists.task(crane, number)
     }
 
     /// Whether a task's hatch is that of another one, and they have one crane.
@@ -252,6 +283,31 @@ impl Shares {
             (Some(one), Some(two)) => one.hatch == two.hatch && one.crane == two.crane,
             _ => false,
         }
+    }
+
+    /// When each crane would be done if it were alone, and 0 for one without work: never later than with the others.
+    pub(crate) fn ends_alone(&self) -> [i64; MOST_CRANES as usize] {
+        let mut ends = [0; MOST_CRANES as usize];
+        for crane in 0..MOST_CRANES {
+            ends[crane as usize] = self.end_alone(crane).unwrap_or(0);
+        }
+        ends
+    }
+
+    /// When a crane with work would be done if it were alone: it goes from its first hatch to its last one.
+    fn end_alone(&self, crane: u16) -> Option<i64> {
+        let sum = self.sums.get(crane as usize)?;
+        let first = self.visit_of_hatch(sum.hatches.trailing_zeros(), crane)?;
+        let last = self.visit_of_hatch(63_u32.saturating_sub(sum.hatches.leading_zeros()), crane)?;
+        let way = last.along.saturating_sub(first.along);
+        Some(first.free.saturating_add(sum.work).saturating_add(way))
+    }
+
+    /// The visit of a hatch by a crane, where it reaches it.
+    fn visit_of_hatch(&self, hatch: u32, crane: u16) -> Option<&Visit> {
+        let numbers = self.numbers.get(hatch as usize)?;
+        let number = *numbers.get(crane as usize)?;
+        self.visits.get(number as usize)
     }
 
     /// When each crane is done, where pairs that are apart or ordered don't count; 0 for one without work.
@@ -269,6 +325,12 @@ impl Shares {
         }
         ends
     }
+}
+
+/// A word with one of its bits set or not.
+fn with_bit(word: u64, number: usize, is_set: bool) -> u64 {
+    let bit = 1 << (number % 64);
+    if is_set { word | bit } else { word & !bit }
 }
 
 /// Does the work of those of 64 visits, from the first one on, that have some.

@@ -16,8 +16,8 @@ use std::alloc::Global;
 pub struct Swept {
     pub(crate) parts: Parts,
     pub(crate) hunt: Hunt,
-    /// Of how many states the children were made.
-    pub(crate) states: usize,
+    /// How many changes the local searches may try.
+    pub(crate) tries: usize,
 }
 
 impl Swept {
@@ -36,11 +36,7 @@ impl Swept {
         requires { IsSwept inst.now self }
         ensures { IfOk result (λ found. IfSome found (IsFirstPlan inst.now)) }
     {
-        let Swept {
-            parts,
-            hunt,
-            states,
-        } = self;
-        improve(alloc, inst, &parts, hunt, states)
+        let Swept { parts, hunt, tries } = self;
+        improve(alloc, inst, &parts, hunt, tries)
     }
 }

@@ -4,8 +4,8 @@ use crate::dice::Dice;
 use crate::shares::Shares;
 use qc_num::OutOfMemory;
 
-/// How often a task of a crane is looked for.
-const LOOKS: usize = 64;
+/// How often a task of a crane is drawn that may go to another one.
+const DRAWS: usize = 8;
 
 /// The next crane up or down, by chance.
 fn neighbour(dice: &mut Dice, crane: u16) -> u16 {
@@ -21,21 +21,24 @@ fn any(shares: &Shares, dice: &mut Dice) -> u16 {
     u16::try_from(dice.below(shares.count())).unwrap_or(0)
 }
 
-/// A task of a crane, by chance.
-fn any_of(shares: &Shares, dice: &mut Dice, crane: u16) -> Option<u16> {
-    for _ in 0..LOOKS {
-        let task = any(shares, dice);
-        if shares.crane(task) == crane {
+/// A task of a crane that may go to another one, by chance.
+fn any_of(shares: &Shares, dice: &mut Dice, crane: u16, to: u16) -> Option<u16> {
+    for _ in 0..DRAWS {
+        let task = shares.task_of(crane, dice.below(shares.count_of(crane)))?;
+        if shares.may_go(task, to) {
             return Some(task);
         }
     }
     None
 }
 
-/// Gives a task to the next crane up or down. Whether that reaches it.
+/// Gives a task to the next crane up or down. Whether it may go there.
 fn shift(shares: &mut Shares, dice: &mut Dice) -> Result<bool, OutOfMemory> {
     let task = any(shares, dice);
     let crane = neighbour(dice, shares.crane(task));
+    if !shares.may_go(task, crane) {
+        return Ok(false);
+    }
     shares.give(task, crane)
 }
 
@@ -64,18 +67,32 @@ fn shift_run(shares: &mut Shares, dice: &mut Dice) -> Result<bool, OutOfMemory> 
     Ok(true)
 }
 
+/// Gives a task of a crane that may go to another one to that, and tells which; `None` where none was found.
+fn send(
+    shares: &mut Shares,
+    dice: &mut Dice,
+    crane: u16,
+    to: u16,
+) -> Result<Option<u16>, OutOfMemory> {
+    let Some(task) = any_of(shares, dice, crane, to) else {
+        return Ok(None);
+    };
+    shares.give(task, to)?;
+    Ok(Some(task))
+}
+
 /// Exchanges a task of a crane and one of the next crane, and in a third of all tries gives one more of them to the
-/// other crane. Whether the cranes reach them.
+/// other crane. Whether three or two tasks were found that may go there.
 fn exchange(shares: &mut Shares, dice: &mut Dice) -> Result<bool, OutOfMemory> {
     let crane = u16::try_from(dice.below(shares.crane_count().saturating_sub(1))).unwrap_or(0);
     let next = crane.saturating_add(1);
-    let Some(one) = any_of(shares, dice, crane) else {
+    let Some(one) = send(shares, dice, crane, next)? else {
         return Ok(false);
     };
-    let Some(other) = any_of(shares, dice, next) else {
+    let Some(other) = send(shares, dice, next, crane)? else {
         return Ok(false);
     };
-    if !shares.give(one, next)? || !shares.give(other, crane)? {
+    if other == one {
         return Ok(false);
     }
     if dice.below(3) > 0 {
@@ -86,21 +103,19 @@ fn exchange(shares: &mut Shares, dice: &mut Dice) -> Result<bool, OutOfMemory> {
     } else {
         (next, crane)
     };
-    match any_of(shares, dice, from) {
-        Some(more) => shares.give(more, to),
-        None => Ok(false),
-    }
+    let more = send(shares, dice, from, to)?;
+    Ok(more.is_some_and(|more| more != one && more != other))
 }
 
-/// Changes something, by chance. Whether it is allowed: else it is to be taken back.
+/// Changes something, by chance, so that along the phases of no hatch the cranes rise. Whether that could be: else it is
+/// to be taken back.
 pub(crate) fn change(shares: &mut Shares, dice: &mut Dice) -> Result<bool, OutOfMemory> {
     let kind = dice.below(100);
-    let is_reached = if kind < 25 {
-        shift(shares, dice)?
+    if kind < 25 {
+        shift(shares, dice)
     } else if kind < 35 {
-        shift_run(shares, dice)?
+        shift_run(shares, dice)
     } else {
-        exchange(shares, dice)?
-    };
-    Ok(is_reached && shares.is_allowed())
+        exchange(shares, dice)
+    }
 }

@@ -99,19 +99,30 @@ impl Walk {
         Ok(())
     }
 
+    /// Keeps a change, where it is accepted, and takes it back otherwise. Most are refused by what each crane has to do
+    /// alone, which is soon counted.
+    fn decide(&mut self) -> Result<(), OutOfMemory> {
+        let least = cost_of(&self.shares.ends_alone(), self.low);
+        if !self.late.accepts(self.cost, least) {
+            self.shares.take_back();
+            return Ok(());
+        }
+        let ends = self.shares.ends();
+        let cost = cost_of(&ends, self.low);
+        if !self.late.accepts(self.cost, cost) {
+            self.shares.take_back();
+            return Ok(());
+        }
+        self.keep(&ends, cost)
+    }
+
     /// Tries a change.
     fn step(&mut self) -> Result<(), OutOfMemory> {
         if !change(&mut self.shares, &mut self.dice)? {
             self.shares.take_back();
             return Ok(());
         }
-        let ends = self.shares.ends();
-        let cost = cost_of(&ends, self.low);
-        if self.late.accepts(self.cost, cost) {
-            self.keep(&ends, cost)?;
-        } else {
-            self.shares.take_back();
-        }
+        self.decide()?;
         self.late.note(self.cost);
         if self.late.is_idle() {
             self.begin_again();
