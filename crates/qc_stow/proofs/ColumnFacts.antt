@@ -1,5 +1,5 @@
 -- How the places of a name follow from the fields one by one.
-use Rattle.std.proofs.Common.{◌≡◌, ◌<◌, ◌+◌, ◌∷◌, ℕ, List, [], drop, length, Bool, true, false, Result, Err, Option, Some, None, refl}
+use Rattle.std.proofs.Common.{◌≡◌, ◌<◌, ◌+◌, ◌∷◌, ℕ, List, [], drop, length, true, false, Err, Option, Some, None, refl}
 use Rattle.std.proofs.lemmas.List.{drop_more}
 use Rattle.qc_lines.specs.Records.{field_of}
 use Rattle.qc_stow.specs.Columns.{is_named, only_place, places_of}
