@@ -6,7 +6,7 @@ reference.py this is a second opinion: nothing is taken from the program, TOML a
 import re
 import tomllib
 
-from reference import read_ship, records_of
+from reference import columns_of, read_ship, records_of
 
 REQUIRED = object()
 
@@ -189,10 +189,16 @@ def row_fault(record, ship, earlier):
 def list_fault(ship, data):
     """What `qc` says of the list, or None where it is a good one."""
     records, earlier = records_of(data), set()
-    if not records or records[0] != ["id", "move", "cell", "length"]:
+    places = columns_of(records[0]) if records else None
+    if places is None:
         return "BadStow Header 1"
     for number, record in enumerate(records[1:], 2):
-        fault = "TooMany" if number == 50_002 else row_fault(record, ship, earlier)
+        if number == 50_002:
+            fault = "TooMany"
+        elif len(record) != len(records[0]):
+            fault = "Fields"
+        else:
+            fault = row_fault([record[at] for at in places], ship, earlier)
         if fault:
             return f"BadStow {fault} {number}"
     return None

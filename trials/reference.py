@@ -165,10 +165,24 @@ def records_of(data):
     return [record for record in csv.reader(io.StringIO(text, newline="")) if record]
 
 
+def columns_of(header):
+    """The places of id, move, cell and length among the names of a header, or None."""
+    names = ["".join(chr(ord(c) + 32) if "A" <= c <= "Z" else c for c in field.strip(" ")) for field in header]
+    wanted = ("id", "move", "cell", "length")
+    return [names.index(name) for name in wanted] if all(names.count(name) == 1 for name in wanted) else None
+
+
+def moves_of(data):
+    """The id, the kind, the cell and the length of each move of a list without a fault."""
+    header, *records = records_of(data)
+    places = columns_of(header)
+    return [[record[at] for at in places] for record in records]
+
+
 def instance_of(ship, data):
     """The tasks of a ship and its stowage list, and the rules between them."""
     moves = {}  # the ids of each hatch and phase
-    for ident, kind, cell, _ in records_of(data)[1:]:
+    for ident, kind, cell, _ in moves_of(data):
         on_deck = int(cell[-2:]) >= 70
         phase = {("D", True): "DD", ("D", False): "DH", ("L", False): "LH", ("L", True): "LD"}[kind, on_deck]
         moves.setdefault((ship.hatch_of(int(cell[:-4])), phase), []).append(ident)
@@ -909,7 +923,7 @@ def sheet_report(ship, stow, inst, data):
     if broken[0] != "OneWay":
         return 13, [" ".join(["Broken", broken[0]] + [inst.tasks[j].name for j in broken[1:]])]
     moves = {}
-    for ident, kind, text, _ in records_of(stow)[1:]:
+    for ident, kind, text, _ in moves_of(stow):
         cell = int(text[:-4]), int(text[-4:-2]), int(text[-2:])
         phase = kind + ("D" if cell[2] >= 70 else "H")
         moves.setdefault((ship.hatch_of(cell[0]), phase), []).append((ident, cell))

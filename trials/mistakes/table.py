@@ -353,18 +353,21 @@ MISTAKES = [
          base="first"),
     stow("tabs", "id\tmove\tcell\tlength\nA1\tD\t020082\t40\n", "BadStow Header 1",
          ['qc: stow.csv, line 1, record 1: "id\\tmove\\tcell\\tlength" isn\'t the header ' + HEADER + ": " + TABS], base="first"),
-    stow("capital letters", [("id,move,cell,length", "ID,Move,Cell,Length")], "BadStow Header 1",
-         ['qc: stow.csv, line 1, record 1: "ID,Move,Cell,Length" isn\'t the header ' + HEADER
-          + ": it has small letters alone, and no spaces"]),
-    stow("spaces behind commas", [("id,move,cell,length", "id, move, cell, length")], "BadStow Header 1",
-         ['qc: stow.csv, line 1, record 1: "id, move, cell, length" isn\'t the header ' + HEADER
-          + ": it has small letters alone, and no spaces"]),
-    stow("further columns", [("id,move,cell,length", "id,move,cell,length,weight")], "BadStow Header 1",
-         ['qc: stow.csv, line 1, record 1: "id,move,cell,length,weight" isn\'t the header ' + HEADER
-          + ": it has these four columns alone: delete the others"]),
-    stow("another order", [("id,move,cell,length", "move,id,cell,length")], "BadStow Header 1",
-         ['qc: stow.csv, line 1, record 1: "move,id,cell,length" isn\'t the header ' + HEADER
-          + ": the columns stand in this order"]),
+    stow("a column twice", [("id,move,cell,length", "id,move,cell,length,ID")], "BadStow Header 1",
+         ['qc: stow.csv, line 1, record 1: "id,move,cell,length,ID" isn\'t the header ' + HEADER
+          + ": each of the four names stands in one column alone"]),
+    stow("a further name alone", [("id,move,cell,length", "id,move,cell,length,weight")], "BadStow Fields 2",
+         ["qc: stow.csv, line 2, record 2: the record has 4 fields, and the header has 5"
+          ": some are missing, or the line is no record of the table"]),
+    stow("names in another order", [("id,move,cell,length", "move,id,cell,length")], "BadStow MoveKind 2",
+         ['qc: stow.csv, line 2, record 2: the move is "HLXU000002"; it is D for discharge or L for load']),
+    stow("columns of a table's own", "Port,ID,Move,Cell,Length\nDEHAM,A1,D,020082,40\nDEHAM,A2,D,020084,20\n",
+         "BadStow LengthMismatch 3",
+         ['qc: stow.csv, line 3, record 3: the length is "20", and bay 2 is even: write 40, or the bay where the container '
+          "stands; odd bays are of 20 feet and even ones of 40, and 45 feet are written 40"], base="first"),
+    stow("columns behind a table's own", "Port,ID,Move,Cell,Length\nDEHAM,A1,D,020082,40,,\n", "BadStow Fields 2",
+         ["qc: stow.csv, line 2, record 2: the record has 7 fields, and the header has 5"
+          ": those behind the header's last are empty: delete their columns"], base="first"),
     stow("another name", [("id,move,cell,length", "container,move,cell,length")], "BadStow Header 1",
          ['qc: stow.csv, line 1, record 1: "container,move,cell,length" isn\'t the header ' + HEADER
           + ": a column is missing or has another name"]),

@@ -1,10 +1,39 @@
 //! Faults of a stowage list.
 
-use qc_page::{Page, Sort, Table, are_digits, is_blank, say_fields, say_header, table_of};
+use qc_page::{Page, Place, Sort, Table, are_digits, is_blank, say_fields, say_header, table_of};
 use qc_ship::{Cell, CellFault, Ship};
-use qc_stow::{StowFault, StowKind};
+use qc_stow::{Columns, StowFault, StowKind};
 
 const HEADER: &str = "id,move,cell,length";
+
+/// A stowage list, with the columns that its header names.
+#[derive(Drop)]
+struct List<'a> {
+    table: Table<'a>,
+    at: Columns,
+}
+
+impl<'a> List<'a> {
+    /// Where a record stands.
+    fn place(&self, number: u32) -> Place<'a> {
+        self.table.place(number)
+    }
+
+    /// The id of a record.
+    fn id(&self, number: u32) -> &[u8] {
+        self.table.field(number, self.at.id)
+    }
+
+    /// The kind of move of a record.
+    fn kind(&self, number: u32) -> &[u8] {
+        self.table.field(number, self.at.kind)
+    }
+
+    /// The cell of a record.
+    fn cell(&self, number: u32) -> &[u8] {
+        self.table.field(number, self.at.cell)
+    }
+}
 
 /// Says what is wrong with a stowage list of a ship, whose first fault is this one.
 pub fn say_stow(page: &mut Page, file: &str, bytes: &[u8], ship: &Ship, fault: StowFault) {
@@ -12,26 +41,34 @@ pub fn say_stow(page: &mut Page, file: &str, bytes: &[u8], ship: &Ship, fault: S
     let Some(table) = page.unless_short(table) else {
         return;
     };
-    say_fault(page, &table, fault, ship)
+    match columns_of(&table) {
+        Some(at) => say_fault(page, &List { table, at }, fault, ship),
+        None => say_header(page, &table, HEADER, Sort::Stow),
+    }
 }
 
-/// Says what is wrong with a record.
-fn say_fault(page: &mut Page, table: &Table<'_>, fault: StowFault, ship: &Ship) {
+/// The columns that the header of a list names.
+fn columns_of(table: &Table<'_>) -> Option<Columns> {
+    Columns::read(table.record(1)?).ok()
+}
+
+/// Says what is wrong with a record behind the header.
+fn say_fault(page: &mut Page, list: &List<'_>, fault: StowFault, ship: &Ship) {
     let number = fault.number;
     match fault.kind {
-        StowKind::Header => say_header(page, table, HEADER, Sort::Stow),
+        StowKind::Header => {}
         StowKind::TooMany => page
-            .on(table.place(number))
+            .on(list.place(number))
             .text("this is a move behind the 50000th, and a list has no more")
             .end(),
-        StowKind::Fields => say_fields(page, table, number, HEADER),
-        StowKind::Id => say_id(page, table, number),
-        StowKind::MoveKind => say_move(page, table, number),
-        StowKind::Cell(fault) => say_cell(page, table, number, fault),
-        StowKind::LengthMismatch => say_length(page, table, number),
-        StowKind::NoHatch => say_no_hatch(page, table, number, ship),
-        StowKind::IdTwice => say_id_twice(page, table, number),
-        StowKind::CellTaken => say_cell_taken(page, table, number),
+        StowKind::Fields => say_fields(page, &list.table, number, HEADER),
+        StowKind::Id => say_id(page, list, number),
+        StowKind::MoveKind => say_move(page, list, number),
+        StowKind::Cell(fault) => say_cell(page, list, number, fault),
+        StowKind::LengthMismatch => say_length(page, list, number),
+        StowKind::NoHatch => say_no_hatch(page, list, number, ship),
+        StowKind::IdTwice => say_id_twice(page, list, number),
+        StowKind::CellTaken => say_cell_taken(page, list, number),
     }
 }
 
@@ -51,9 +88,9 @@ fn why_no_id(field: &[u8]) -> &'static str {
 }
 
 /// Says what is wrong with an id.
-fn say_id(page: &mut Page, table: &Table<'_>, number: u32) {
-    let (place, field) = (table.place(number), table.field(number, 0));
-    if is_blank(table, number) {
+fn say_id(page: &mut Page, list: &List<'_>, number: u32) {
+    let (place, field) = (list.place(number), list.id(number));
+    if is_blank(&list.table, number) {
         return page
             .on(place)
             .text("the record is empty: delete the line")
@@ -80,9 +117,9 @@ fn meant_move(field: &[u8]) -> Option<&'static str> {
 }
 
 /// Says what is wrong with a kind of move.
-fn say_move(page: &mut Page, table: &Table<'_>, number: u32) {
-    let field = table.field(number, 1);
-    page.on(table.place(number))
+fn say_move(page: &mut Page, list: &List<'_>, number: u32) {
+    let field = list.kind(number);
+    page.on(list.place(number))
         .text("the move is ")
         .shown(field);
     match meant_move(field) {
@@ -126,9 +163,9 @@ fn why_wrong_cell(field: &[u8], fault: CellFault) -> &'static str {
 }
 
 /// Says what is wrong with a cell.
-fn say_cell(page: &mut Page, table: &Table<'_>, number: u32, fault: CellFault) {
-    let field = table.field(number, 2);
-    page.on(table.place(number))
+fn say_cell(page: &mut Page, list: &List<'_>, number: u32, fault: CellFault) {
+    let field = list.cell(number);
+    page.on(list.place(number))
         .text("the cell is ")
         .shown(field)
         .text(": ")
@@ -147,13 +184,13 @@ fn due_length(cell: Cell) -> &'static str {
 }
 
 /// Says what is wrong with a length.
-fn say_length(page: &mut Page, table: &Table<'_>, number: u32) {
-    let Ok(cell) = Cell::read(table.field(number, 2)) else {
+fn say_length(page: &mut Page, list: &List<'_>, number: u32) {
+    let Ok(cell) = Cell::read(list.cell(number)) else {
         return;
     };
-    page.on(table.place(number))
+    page.on(list.place(number))
         .text("the length is ")
-        .shown(table.field(number, 3))
+        .shown(list.table.field(number, list.at.length))
         .text(", and bay ")
         .count(u64::from(cell.bay))
         .text(due_length(cell))
@@ -164,11 +201,11 @@ fn say_length(page: &mut Page, table: &Table<'_>, number: u32) {
 }
 
 /// Says which hatches are nearest to a bay that none takes.
-fn say_no_hatch(page: &mut Page, table: &Table<'_>, number: u32, ship: &Ship) {
-    let Ok(cell) = Cell::read(table.field(number, 2)) else {
+fn say_no_hatch(page: &mut Page, list: &List<'_>, number: u32, ship: &Ship) {
+    let Ok(cell) = Cell::read(list.cell(number)) else {
         return;
     };
-    page.on(table.place(number))
+    page.on(list.place(number))
         .text("no hatch of the ship file takes bay ")
         .count(u64::from(cell.bay))
         .text("; an even hatch takes its own bay and those on both sides, an odd one its own alone")
@@ -217,18 +254,18 @@ fn overlap(one: &[u8], other: &[u8]) -> bool {
 }
 
 /// The first record whose move is of the same kind and has the id or, else, an overlapping cell.
-fn earlier(table: &Table<'_>, number: u32, by_cell: bool) -> Option<u32> {
-    let sort = table.field(number, 1);
-    let at = if by_cell { 2 } else { 0 };
-    let wanted = table.field(number, at);
+fn earlier(list: &List<'_>, number: u32, by_cell: bool) -> Option<u32> {
+    let sort = list.kind(number);
+    let at = if by_cell { list.at.cell } else { list.at.id };
+    let wanted = list.table.field(number, at);
     for other in 2..number {
-        let field = table.field(other, at);
+        let field = list.table.field(other, at);
         let is_taken = if by_cell {
             overlap(field, wanted)
         } else {
             field == wanted
         };
-        if is_taken && table.field(other, 1) == sort {
+        if is_taken && list.kind(other) == sort {
             return Some(other);
         }
     }
@@ -236,25 +273,25 @@ fn earlier(table: &Table<'_>, number: u32, by_cell: bool) -> Option<u32> {
 }
 
 /// What a move of the kind of a record is called.
-fn sort_of(table: &Table<'_>, number: u32) -> &'static str {
-    match table.field(number, 1) {
+fn sort_of(list: &List<'_>, number: u32) -> &'static str {
+    match list.kind(number) {
         b"D" => "discharged",
         _ => "loaded",
     }
 }
 
 /// Says which earlier record has the id.
-fn say_id_twice(page: &mut Page, table: &Table<'_>, number: u32) {
-    let Some(other) = earlier(table, number, false) else {
+fn say_id_twice(page: &mut Page, list: &List<'_>, number: u32) {
+    let Some(other) = earlier(list, number, false) else {
         return;
     };
-    let sort = sort_of(table, number);
-    page.on(table.place(number))
-        .shown(table.field(number, 0))
+    let sort = sort_of(list, number);
+    page.on(list.place(number))
+        .shown(list.id(number))
         .text(" is ")
         .text(sort)
         .text(" in line ")
-        .count(table.place(other).line as u64)
+        .count(list.place(other).line as u64)
         .text(" already; each container is ")
         .text(sort)
         .text(" once")
@@ -262,22 +299,22 @@ fn say_id_twice(page: &mut Page, table: &Table<'_>, number: u32) {
 }
 
 /// Says which earlier record has a cell that overlaps.
-fn say_cell_taken(page: &mut Page, table: &Table<'_>, number: u32) {
-    let Some(other) = earlier(table, number, true) else {
+fn say_cell_taken(page: &mut Page, list: &List<'_>, number: u32) {
+    let Some(other) = earlier(list, number, true) else {
         return;
     };
-    page.on(table.place(number))
-        .shown(table.field(number, 0))
+    page.on(list.place(number))
+        .shown(list.id(number))
         .text(" at ")
-        .shown(table.field(number, 2))
+        .shown(list.cell(number))
         .text(" overlaps ")
-        .shown(table.field(other, 0))
+        .shown(list.id(other))
         .text(" at ")
-        .shown(table.field(other, 2))
+        .shown(list.cell(other))
         .text(" of line ")
-        .count(table.place(other).line as u64)
+        .count(list.place(other).line as u64)
         .text("; each place is ")
-        .text(sort_of(table, number))
+        .text(sort_of(list, number))
         .text(" once")
         .end()
 }

@@ -45,7 +45,7 @@ fn start_from(text: &[u8], offset: usize) -> usize {
 
 impl<'a> Table<'a> {
     /// A record by its number, from 1.
-    pub(crate) fn record(&self, number: u32) -> Option<&ByteRecord> {
+    pub fn record(&self, number: u32) -> Option<&ByteRecord> {
         self.records.get((number as usize).checked_sub(1)?)
     }
 
@@ -137,13 +137,18 @@ fn has_names(plain: &[u8], header: &str) -> usize {
 }
 
 /// Why a line isn't the header.
-fn why_no_header(alloc: Global, line: &[u8], header: &str) -> Result<&'static str, OutOfMemory> {
+fn why_no_header(
+    alloc: Global,
+    line: &[u8],
+    header: &str,
+    wanted: Sort,
+) -> Result<&'static str, OutOfMemory> {
     let plain = plain_line(alloc, line)?;
-    Ok(why_other_line(plain.as_slice(), line, header))
+    Ok(why_other_line(plain.as_slice(), line, header, wanted))
 }
 
 /// Why a line, which is also given plain, isn't the header.
-fn why_other_line(plain: &[u8], line: &[u8], header: &str) -> &'static str {
+fn why_other_line(plain: &[u8], line: &[u8], header: &str, wanted: Sort) -> &'static str {
     let named = has_names(plain, header);
     if plain.starts_with(b"sep=") {
         return "this line is the spreadsheet's own: delete it";
@@ -153,6 +158,14 @@ fn why_other_line(plain: &[u8], line: &[u8], header: &str) -> &'static str {
     {
         return signs;
     }
+    match wanted {
+        Sort::Stow if named == 4 => "each of the four names stands in one column alone",
+        _ => why_other_names(plain, header, named),
+    }
+}
+
+/// Why a line, of which this many names are those of the header, has other columns.
+fn why_other_names(plain: &[u8], header: &str, named: usize) -> &'static str {
     if plain == header.as_bytes() {
         "it has small letters alone, and no spaces"
     } else if named == 4 && count_pieces(plain, b',') > 4 {
@@ -172,7 +185,7 @@ pub fn say_header(page: &mut Page, table: &Table<'_>, header: &str, wanted: Sort
         return;
     }
     let line = table.first_line();
-    let Some(why) = page.unless_short(why_no_header(page.alloc(), line, header)) else {
+    let Some(why) = page.unless_short(why_no_header(page.alloc(), line, header, wanted)) else {
         return;
     };
     page.on(table.place(1))
@@ -184,9 +197,9 @@ pub fn say_header(page: &mut Page, table: &Table<'_>, header: &str, wanted: Sort
         .end()
 }
 
-/// Whether each field behind the fourth is empty.
-fn are_empty_behind(fields: &ByteRecord) -> bool {
-    for field in fields.iter().skip(4) {
+/// Whether each field behind those of the header is empty.
+fn are_empty_behind(fields: &ByteRecord, columns: usize) -> bool {
+    for field in fields.iter().skip(columns) {
         if !field.trim_ascii().is_empty() {
             return false;
         }
@@ -194,11 +207,15 @@ fn are_empty_behind(fields: &ByteRecord) -> bool {
     true
 }
 
-/// Why a record hasn't four fields.
-fn why_not_four(fields: &ByteRecord) -> &'static str {
-    if fields.len() > 4 && are_empty_behind(fields) {
-        "those behind the fourth are empty: delete their columns"
-    } else if fields.len() > 4 {
+/// Why a record hasn't as many fields as the header.
+fn why_not_as_many(fields: &ByteRecord, columns: usize) -> &'static str {
+    if fields.len() > columns && are_empty_behind(fields, columns) {
+        if columns == 4 {
+            "those behind the fourth are empty: delete their columns"
+        } else {
+            "those behind the header's last are empty: delete their columns"
+        }
+    } else if fields.len() > columns {
         "delete further columns; a field that has a comma stands between double quotes"
     } else if let Some(signs) = other_signs(fields.as_slice()) {
         signs
@@ -209,21 +226,22 @@ fn why_not_four(fields: &ByteRecord) -> &'static str {
     }
 }
 
-/// Says what is wrong with the fields of a record that hasn't four.
+/// Says what is wrong with the fields of a record that hasn't as many as the header.
 pub fn say_fields(page: &mut Page, table: &Table<'_>, number: u32, header: &str) {
-    let Some(fields) = table.record(number) else {
+    let (Some(fields), Some(columns)) = (table.record(number), table.record(1)) else {
         return;
     };
-    let (count, why) = (fields.len(), why_not_four(fields));
+    let (count, columns) = (fields.len(), columns.len());
     page.on(table.place(number))
         .text("the record has ")
         .count(count as u64)
-        .text(if count == 1 { " field" } else { " fields" })
-        .text(", and needs four, ")
-        .text(header)
-        .text(": ")
-        .text(why)
-        .end()
+        .text(if count == 1 { " field" } else { " fields" });
+    if columns == 4 {
+        page.text(", and needs four, ").text(header);
+    } else {
+        page.text(", and the header has ").count(columns as u64);
+    }
+    page.text(": ").text(why_not_as_many(fields, columns)).end()
 }
 
 /// Whether a record has no more than empty fields.

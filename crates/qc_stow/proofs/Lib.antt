@@ -1,2 +1,3 @@
 pub mod TakenFacts
 pub mod StowFacts
+mod ColumnFacts

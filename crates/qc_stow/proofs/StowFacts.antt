@@ -17,6 +17,7 @@ use Rattle.qc_stow.specs.Moves.{AreMoves, has_id, is_taken, most_moves, same_mov
 use Rattle.qc_stow.specs.Fields.{is_id, length_text}
 use Rattle.qc_stow.specs.Rows.{move_in, row_in, row_of}
 use Rattle.qc_stow.specs.Stow.{apart_from, next_row, numbered, over_hatch, row_after, row_on}
+use Rattle.qc_stow.specs.declared.columns.Columns.{Columns}
 use Rattle.qc_stow.specs.declared.row.Move.{Move}
 use Rattle.qc_stow.specs.declared.row.Move.TheVariants.{Discharge, Load}
 use Rattle.qc_stow.specs.declared.row.Row.{Row}
@@ -49,11 +50,11 @@ apart-known earlier found row e = elim (cases_Bool (has_id earlier found)) [
   ]
 ]
 
-row-follows : (ship : ShipView) (earlier : List Row) (fields : List (List ℕ)) (row : Row) → row_after ship earlier fields ≡ Ok row → FollowsRows ship earlier row
-row-follows ship earlier fields row e =
-    let (u, few, rest) = bind_ok (require (nat_lt (length earlier) most_moves) kind.TooMany) (λ _. row_on ship fields >>= apart_from earlier) row e in
-    let (here, on, apart) = bind_ok (row_on ship fields) (apart_from earlier) row rest in
-    let (found, read, hatched) = bind_ok (row_in fields) (over_hatch ship) here on in
+row-follows : (ship : ShipView) (at : Columns) (earlier : List Row) (fields : List (List ℕ)) (row : Row) → row_after ship at earlier fields ≡ Ok row → FollowsRows ship earlier row
+row-follows ship at earlier fields row e =
+    let (u, few, rest) = bind_ok (require (nat_lt (length earlier) most_moves) kind.TooMany) (λ _. row_on ship at fields >>= apart_from earlier) row e in
+    let (here, on, apart) = bind_ok (row_on ship at fields) (apart_from earlier) row rest in
+    let (found, read, hatched) = bind_ok (row_in at fields) (over_hatch ship) here on in
     let (hatch, is-found) = hatch-known ship found here hatched in
     let (id, cell, is-row) = apart-known earlier here row apart in
     record {
@@ -69,7 +70,7 @@ same-move Discharge Load e = cc e
 same-move Load Discharge e = cc e
 same-move Load Load e = refl
 
--- the id of a row is the first field of its record
+-- the id of a row is the field of its record in the column of ids
 id-kept : (id size : List ℕ) (move : Result Move StowKind) (cell : Result CellView StowKind) (row : Row)
     → (move >>= λ m. cell >>= λ c. row_of id size m c) ≡ Ok row → row.id ≡ id
 id-kept id size (Err why) cell row e = cc e
@@ -79,31 +80,31 @@ id-kept id size (Ok m) (Ok c) row e = elim (cases_Bool (bytes_eq size (length_te
   | inr other ↦ cc (rw other at e)
 ]
 
-id-in : (fields : List (List ℕ)) (row : Row) → row_in fields ≡ Ok row → row.id ≡ field_of fields 0
-id-in fields row e = elim (cases_Bool (length fields == 4)) [
-  | inl four ↦ elim (cases_Bool (is_id (field_of fields 0))) [
-    | inl id ↦ id-kept (field_of fields 0) (field_of fields 3) (move_in (field_of fields 1)) (with_fault kind.Cell (cell_in (field_of fields 2))) row (rw (four, id) at e)
-    | inr other ↦ cc (rw (four, other) at e)
+id-in : (at : Columns) (fields : List (List ℕ)) (row : Row) → row_in at fields ≡ Ok row → row.id ≡ field_of fields at.id
+id-in at fields row e = elim (cases_Bool (length fields == at.all)) [
+  | inl all ↦ elim (cases_Bool (is_id (field_of fields at.id))) [
+    | inl id ↦ id-kept (field_of fields at.id) (field_of fields at.length) (move_in (field_of fields at.kind)) (with_fault kind.Cell (cell_in (field_of fields at.cell))) row (rw (all, id) at e)
+    | inr other ↦ cc (rw (all, other) at e)
   ]
   | inr other ↦ cc (rw other at e)
 ]
 
-pub row-id : (ship : ShipView) (fields : List (List ℕ)) (row : Row) → row_on ship fields ≡ Ok row → row.id ≡ field_of fields 0
-row-id ship fields row e =
-    let (found, read, hatched) = bind_ok (row_in fields) (over_hatch ship) row e in
+pub row-id : (ship : ShipView) (at : Columns) (fields : List (List ℕ)) (row : Row) → row_on ship at fields ≡ Ok row → row.id ≡ field_of fields at.id
+row-id ship at fields row e =
+    let (found, read, hatched) = bind_ok (row_in at fields) (over_hatch ship) row e in
     let (hatch, is-found) = hatch-known ship found row hatched in
-    ap (λ (r : Row). r.id) (sym is-found) ∙ id-in fields found read
+    ap (λ (r : Row). r.id) (sym is-found) ∙ id-in at fields found read
 
 -- the row after others, by the checks that are made of it
-module _ (ship : ShipView) (earlier : List Row) (fields : List (List ℕ)) (row : Row) (number : ℕ) (few : length earlier < most_moves) (on : row_on ship fields ≡ Ok row) where
-  pub after-id : has_id earlier row ≡ true → numbered number (row_after ship earlier fields) ≡ Err (record { number = number; kind = kind.IdTwice })
+module _ (ship : ShipView) (at : Columns) (earlier : List Row) (fields : List (List ℕ)) (row : Row) (number : ℕ) (few : length earlier < most_moves) (on : row_on ship at fields ≡ Ok row) where
+  pub after-id : has_id earlier row ≡ true → numbered number (row_after ship at earlier fields) ≡ Err (record { number = number; kind = kind.IdTwice })
   after-id twice = let room = lt-ltb (length earlier) most_moves few in rw (room, on, twice) refl
 
   pub after-cell : has_id earlier row ≡ false → is_taken earlier row ≡ true
-      → numbered number (row_after ship earlier fields) ≡ Err (record { number = number; kind = kind.CellTaken })
+      → numbered number (row_after ship at earlier fields) ≡ Err (record { number = number; kind = kind.CellTaken })
   after-cell new taken = let room = lt-ltb (length earlier) most_moves few in rw (room, on, new, taken) refl
 
-  pub after-row : has_id earlier row ≡ false → is_taken earlier row ≡ false → numbered number (row_after ship earlier fields) ≡ Ok row
+  pub after-row : has_id earlier row ≡ false → is_taken earlier row ≡ false → numbered number (row_after ship at earlier fields) ≡ Ok row
   after-row new free = let room = lt-ltb (length earlier) most_moves few in rw (room, on, new, free) refl
 
 -- where no element passes, that at a place doesn't
@@ -140,10 +141,10 @@ stand-more ship earlier row stand follows = record {
 }
 
 -- the rows of a list are moves, each over a hatch
-pub rows-keep : (ship : ShipView) (records : List (List (List ℕ))) (rows : List Row) → each (next_row ship) [] records ≡ Ok rows
+pub rows-keep : (ship : ShipView) (at : Columns) (records : List (List (List ℕ))) (rows : List Row) → each (next_row ship at) [] records ≡ Ok rows
     → AreMoves rows × All (λ row. IsSome (place_of_bay ship row.cell.bay)) rows
-rows-keep ship records rows e =
-    let stand = each-keeps (next_row ship) (StandApart ship) (λ before fields row stand read.
-    stand-more ship before row stand (row-follows ship before fields row (with_fault_ok _ (row_after ship before fields) row read)))
+rows-keep ship at records rows e =
+    let stand = each-keeps (next_row ship at) (StandApart ship) (λ before fields row stand read.
+    stand-more ship before row stand (row-follows ship at before fields row (with_fault_ok _ (row_after ship at before fields) row read)))
     [] records rows (stand-none ship) e in
     (record { count = stand.count; ids = stand.ids; apart = stand.apart }, stand.hatches)

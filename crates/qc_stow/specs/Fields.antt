@@ -1,15 +1,6 @@
 -- public: the fields of a stowage list.
 use Rattle.std.specs.Prelude.{ℕ, List, length, Bool, not, ◌&&◌, ◌==◌, ◌%◌, nat_le, if◌then◌else◌, codes}
 use Rattle.std.specs.List.{list_all}
-use Rattle.std.specs.Str.{bytes_eq}
-use Rattle.qc_lines.specs.Records.{field_of}
-
--- the four names of the columns
-abbrev pub is_header : List (List ℕ) → Bool
-is_header fields =
-    (length fields == 4) && bytes_eq (field_of fields 0) (codes "id")
-    && bytes_eq (field_of fields 1) (codes "move") && bytes_eq (field_of fields 2) (codes "cell")
-    && bytes_eq (field_of fields 3) (codes "length")
 
 -- a visible character that is no comma and no double quote
 abbrev pub is_id_byte : ℕ → Bool

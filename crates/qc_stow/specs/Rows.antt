@@ -5,6 +5,7 @@ use Rattle.qc_num.specs.Reading.{◌>>=◌, require, with_fault}
 use Rattle.qc_ship.specs.Cells.{CellView, cell_in}
 use Rattle.qc_lines.specs.Records.{field_of}
 use Rattle.qc_stow.specs.Fields.{is_id, length_text}
+use Rattle.qc_stow.specs.declared.columns.Columns.{Columns}
 use Rattle.qc_stow.specs.declared.row.Move.{Move}
 use Rattle.qc_stow.specs.declared.row.Move.TheVariants.{Discharge, Load}
 use Rattle.qc_stow.specs.declared.row.Row.{Row}
@@ -22,11 +23,11 @@ row_of id size move cell = do
   _ ← require (bytes_eq size (length_text cell.bay)) kind.LengthMismatch
   Ok (record { id = id; kind = move; cell = cell })
 
--- the row that the fields of a record write, or the first fault of them
-abbrev pub row_in : List (List ℕ) → Result Row StowKind
-row_in fields = do
-  _ ← require (length fields == 4) kind.Fields
-  _ ← require (is_id (field_of fields 0)) kind.Id
-  move ← move_in (field_of fields 1)
-  cell ← with_fault kind.Cell (cell_in (field_of fields 2))
-  row_of (field_of fields 0) (field_of fields 3) move cell
+-- the row that the fields of a record write in these columns, or the first fault of them
+abbrev pub row_in : Columns → List (List ℕ) → Result Row StowKind
+row_in at fields = do
+  _ ← require (length fields == at.all) kind.Fields
+  _ ← require (is_id (field_of fields at.id)) kind.Id
+  move ← move_in (field_of fields at.kind)
+  cell ← with_fault kind.Cell (cell_in (field_of fields at.cell))
+  row_of (field_of fields at.id) (field_of fields at.length) move cell

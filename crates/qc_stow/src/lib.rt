@@ -3,6 +3,7 @@
 //! `read_stow` gives the moves of a list, or the fault of its first faulty record.
 #![tactic(auto)]
 
+mod columns;
 mod fault;
 mod fields;
 mod id;
@@ -11,6 +12,7 @@ mod reader;
 mod row;
 mod taken;
 
+pub use columns::Columns;
 pub use fault::{StowError, StowFault, StowKind};
 pub use id::Id;
 pub use moves::{MOST_MOVES, Moves};

@@ -9,8 +9,8 @@ ghost use Rattle.qc_stow.specs.Stow.{moves_in, next_row, row_on};
 ghost use Rattle.qc_stow.specs.Taken.{ids_of, slots_taken};
 ghost use Rattle.qc_num.specs.declared.read_error.ReadError.TheVariants.{Fault};
 
+use crate::columns::Columns;
 use crate::fault::{StowError, StowFault, StowKind};
-use crate::fields::is_header;
 use crate::moves::{MOST_MOVES, Moves};
 use crate::row::Row;
 use crate::taken::Taken;
@@ -34,10 +34,10 @@ fn fault(at: usize, kind: StowKind) -> StowError
 }
 
 /// The row of a record whose bay a hatch of the ship takes.
-fn row_on(fields: &ByteRecord, ship: &Ship) -> Result<Row, StowKind>
-    ensures { result ≡ row_on ship.now (fields_of fields.now) }
+fn row_on(fields: &ByteRecord, at: Columns, ship: &Ship) -> Result<Row, StowKind>
+    ensures { result ≡ row_on ship.now at (fields_of fields.now) }
 {
-    let row = Row::read(fields)?;
+    let row = Row::read(fields, at)?;
     if ship.bay_of(row.cell.bay).is_none() {
         return Err(StowKind::NoHatch);
     }
@@ -48,6 +48,7 @@ fn row_on(fields: &ByteRecord, ship: &Ship) -> Result<Row, StowKind>
 fn next_row<'a>(
     earlier: &[Row],
     fields: &'a ByteRecord,
+    at: Columns,
     ship: &Ship,
     taken: &mut Taken<'a>,
 ) -> Result<Row, StowError>
@@ -55,37 +56,42 @@ fn next_row<'a>(
     requires ids { taken.old.ids ≡ ids_of earlier.now }
     requires slots { taken.old.slots ≡ slots_taken earlier.now }
     ensures row { IsReading (λ row. row)
-        (next_row ship.now earlier.now (fields_of fields.now)) result }
+        (next_row ship.now at earlier.now (fields_of fields.now)) result }
     ensures few { IfOk result (λ _. length earlier.now < most_moves) }
     ensures ids { IfOk result (λ row. taken.new.ids ≡ ids_of (earlier.now ++ row ∷ [])) }
     ensures slots { IfOk result (λ row. taken.new.slots ≡ slots_taken (earlier.now ++ row ∷ [])) }
 {
-    let at = earlier.len();
-    if at == MOST_MOVES {
-        return Err(fault(at, StowKind::TooMany));
+    let number = earlier.len();
+    if number == MOST_MOVES {
+        return Err(fault(number, StowKind::TooMany));
     }
-    let row = match row_on(fields, ship) {
+    let row = match row_on(fields, at, ship) {
         Ok(row) => row,
-        Err(kind) => return Err(fault(at, kind)),
+        Err(kind) => return Err(fault(number, kind)),
     };
-    if !taken.take_id(row.kind, field(fields, 0))? {
-        return Err(fault(at, StowKind::IdTwice));
+    if !taken.take_id(row.kind, field(fields, at.id))? {
+        return Err(fault(number, StowKind::IdTwice));
     }
     if !taken.take_cell(row.kind, row.cell)? {
-        return Err(fault(at, StowKind::CellTaken));
+        return Err(fault(number, StowKind::CellTaken));
     }
     Ok(row)
 }
 
 /// The rows of the records after the header.
-fn read_rows(alloc: Global, records: &[ByteRecord], ship: &Ship) -> Result<Vec<Row>, StowError>
+fn read_rows(
+    alloc: Global,
+    records: &[ByteRecord],
+    at: Columns,
+    ship: &Ship,
+) -> Result<Vec<Row>, StowError>
     ensures { IsReading (λ v. v.items)
-        (each (next_row ship.now) [] (map fields_of records.now)) result }
+        (each (next_row ship.now at) [] (map fields_of records.now)) result }
 {
     let mut rows = Vec::new(alloc);
     let mut taken = Taken::new(alloc);
     for fields in records {
-        match next_row(rows.as_slice(), fields, ship, &mut taken) {
+        match next_row(rows.as_slice(), fields, at, ship, &mut taken) {
             Ok(row) => {
                 if rows.push(row).is_err() {
                     drop(taken);
@@ -104,8 +110,9 @@ fn read_rows(alloc: Global, records: &[ByteRecord], ship: &Ship) -> Result<Vec<R
     Ok(rows)
 }
 
-/// The moves of a stowage list, or the first fault of its first faulty record. A byte-order mark
-/// at the start is dropped, and fields may be quoted, as `csv` reads them.
+/// The moves of a stowage list, or the first fault of its first faulty record. The header names the
+/// columns, in any order and among any others. A byte-order mark at the start is dropped, and fields
+/// may be quoted, as `csv` reads them.
 pub fn read_stow(alloc: Global, text: &[u8], ship: &Ship) -> Result<Moves, StowError>
     ensures moves { IsReading (λ moves. moves) (moves_in ship.now text.now) result }
     ensures hatches { IfOk result (All (λ row. IsSome (place_of_bay ship.now row.cell.bay))) }
@@ -114,10 +121,10 @@ pub fn read_stow(alloc: Global, text: &[u8], ship: &Ship) -> Result<Moves, StowE
     let Some((header, records)) = records.as_slice().split_first() else {
         return Err(no_header());
     };
-    if !is_header(header) {
+    let Ok(at) = Columns::read(header) else {
         return Err(no_header());
-    }
-    Ok(Moves::of(read_rows(alloc, records, ship)?))
+    };
+    Ok(Moves::of(read_rows(alloc, records, at, ship)?))
 }
 
 /// The fault of a list that doesn't begin with its header.

@@ -7,6 +7,7 @@ ghost use Rattle.qc_stow.specs.Rows.{move_in, row_in};
 ghost use Rattle.qc_ship.specs.Cells.{cell_in};
 ghost use Rattle.qc_num.specs.Reading.{with_fault};
 
+use crate::columns::Columns;
 use crate::fault::StowKind;
 use crate::fields::length_text;
 use crate::id::Id;
@@ -71,19 +72,19 @@ impl Row {
         }
     }
 
-    /// The row that the fields of a record write, or the first fault of them.
-    pub(crate) fn read(fields: &ByteRecord) -> Result<Row, StowKind>
-        ensures { result ≡ row_in (fields_of fields.now) }
+    /// The row that the fields of a record write in these columns, or the first fault of them.
+    pub(crate) fn read(fields: &ByteRecord, at: Columns) -> Result<Row, StowKind>
+        ensures { result ≡ row_in at (fields_of fields.now) }
     {
-        if fields.len() != 4 {
+        if fields.len() != at.all {
             return Err(StowKind::Fields);
         }
-        let Some(id) = Id::of(field(fields, 0)) else {
+        let Some(id) = Id::of(field(fields, at.id)) else {
             return Err(StowKind::Id);
         };
-        let kind = Row::move_in(field(fields, 1))?;
-        let cell = Row::cell_in(field(fields, 2))?;
-        if field(fields, 3) != length_text(cell.bay) {
+        let kind = Row::move_in(field(fields, at.kind))?;
+        let cell = Row::cell_in(field(fields, at.cell))?;
+        if field(fields, at.length) != length_text(cell.bay) {
             return Err(StowKind::LengthMismatch);
         }
         Ok(Row { id, kind, cell })

@@ -5,8 +5,8 @@ use Rattle.qc_stow.proofs.reader.read_stow.Goals as goal
 
 pub of-requires : goal.of-requires
 of-requires c =
-    (rows-keep c.args.ship.now (map fields_of c.in-Some.records.now) c.in_ok-read_rows.field-0.items c.in_ok-read_rows.ensures).0
+    (rows-keep c.args.ship.now c.in-Ok.at (map fields_of c.in-Some.records.now) c.in_ok-read_rows.field-0.items c.in_ok-read_rows.ensures).0
 
 pub returns-clause-hatches : goal.returns-clause-hatches
 returns-clause-hatches c =
-    rw c.of.ensures (rows-keep c.args.ship.now (map fields_of c.in-Some.records.now) c.in_ok-read_rows.field-0.items c.in_ok-read_rows.ensures).1
+    rw c.of.ensures (rows-keep c.args.ship.now c.in-Ok.at (map fields_of c.in-Some.records.now) c.in_ok-read_rows.field-0.items c.in_ok-read_rows.ensures).1
