@@ -50,7 +50,10 @@ begins tasks i = (i == 0) || not (bytes_eq (call_at tasks i) (call_at tasks (i -
 abbrev pub call_starts : List PastTask → List ℕ
 call_starts tasks = filter (begins tasks) (range_with_len 0 (length tasks))
 
+-- where a call begins; past the last call, where the tasks end
+abbrev pub call_start : List PastTask → ℕ → ℕ
+call_start tasks number = get_or (call_starts tasks) number (length tasks)
+
 -- the tasks of a call: from where it begins to where the next one does
 abbrev pub tasks_of_call : List PastTask → ℕ → List PastTask
-tasks_of_call tasks number =
-    slice_range tasks (get_or (call_starts tasks) number 0) (get_or (call_starts tasks) (number + 1) (length tasks))
+tasks_of_call tasks number = slice_range tasks (call_start tasks number) (call_start tasks (number + 1))

@@ -1,6 +1,6 @@
 //! The fields of a record.
 
-ghost use Rattle.std.specs.Prelude.{◌≡◌};
+ghost use Rattle.std.specs.Prelude.{◌≡◌, ◌<◌, ◌≤◌, IfOk};
 ghost use Rattle.csv.specs.Records.{fields_of};
 ghost use Rattle.qc_past.specs.Fields.{is_header, length_in, phase_in};
 
@@ -45,7 +45,8 @@ pub(crate) fn read_phase(field: &[u8]) -> Result<Option<Phase>, PastKind>
 
 /// The length that a field writes: plain decimal of at most 9 digits, and not 0.
 pub(crate) fn read_length(field: &[u8]) -> Result<u32, PastKind>
-    ensures { result ≡ length_in field.now }
+    ensures length { result ≡ length_in field.now }
+    ensures range { IfOk result (λ length. (1 ≤ length) × (length < 1000000000)) }
 {
     match plain_number(field, DIGITS) {
         None => Err(PastKind::Number),

@@ -1,7 +1,7 @@
 //! Past tasks, call by call.
 
-ghost use Rattle.std.specs.Prelude.{◌≡◌, ◌≤◌, ◌<◌, ◌+◌, length, get_or, IfOk};
-ghost use Rattle.qc_past.specs.Past.{ArePast, begins, call_starts, most_past, tasks_of_call};
+ghost use Rattle.std.specs.Prelude.{◌≡◌, ◌≤◌, ◌<◌, ◌+◌, length, All, IfOk};
+ghost use Rattle.qc_past.specs.Past.{ArePast, IsPastTask, begins, call_start, call_starts, most_past, tasks_of_call};
 
 use crate::task::PastTask;
 use qc_num::OutOfMemory;
@@ -75,6 +75,29 @@ impl Past {
         self.tasks.as_slice()
     }
 
+    /// Where a call begins; past the last call, where the tasks end.
+    fn start_of(&self, number: usize) -> usize
+        ensures { result ≡ call_start self.now number }
+    {
+        match self.starts.as_slice().get(number) {
+            Some(start) => *start as usize,
+            None => self.tasks.len(),
+        }
+    }
+
+    /// Where a call begins, and where the next one does.
+    fn range_of(&self, number: usize) -> (usize, usize)
+        requires { number < length (call_starts self.now) }
+        ensures from { result.0 ≡ call_start self.now number }
+        ensures to { result.1 ≡ call_start self.now (number + 1) }
+        ensures some { result.0 < result.1 }
+        ensures inside { result.1 ≤ length self.now }
+        ensures past { ArePast self.now }
+    {
+        let _tasks = self.tasks();
+        (self.start_of(number), self.start_of(number + 1))
+    }
+
     /// How many calls there are.
     pub fn call_count(&self) -> u16
         ensures count { result ≡ length (call_starts self.now) }
@@ -89,13 +112,9 @@ impl Past {
         ensures tasks { result.now ≡ tasks_of_call self.now number }
         ensures some { 1 ≤ length result.now }
         ensures few { length result.now ≤ most_past }
+        ensures past { All IsPastTask result.now }
     {
-        let number = number as usize;
-        let from = self.starts[number] as usize;
-        let to = match self.starts.as_slice().get(number + 1) {
-            Some(next) => *next as usize,
-            None => self.tasks.len(),
-        };
+        let (from, to) = self.range_of(number as usize);
         &self.tasks.as_slice()[from..to]
     }
 }

@@ -1,11 +1,11 @@
 //! Reading a file of past tasks.
 
-ghost use Rattle.std.specs.Prelude.{◌≡◌, ◌+◌, ◌<◌, ◌≤◌, [], length, map, IfOk};
+ghost use Rattle.std.specs.Prelude.{◌≡◌, ◌+◌, ◌<◌, ◌≤◌, [], length, map, All, IfOk};
 ghost use Rattle.std.specs.List.{list_all, list_any};
 ghost use Rattle.csv.specs.Records.{fields_of};
 ghost use Rattle.qc_num.specs.Reading.{IsReading, each};
 ghost use Rattle.qc_num.specs.declared.read_error.ReadError.TheVariants.{Fault};
-ghost use Rattle.qc_past.specs.Past.{is_of, most_past};
+ghost use Rattle.qc_past.specs.Past.{IsPastTask, is_of, most_past};
 ghost use Rattle.qc_past.specs.PastFile.{beside, ends_with, next_task, past_in, past_of, task_after, tasks_of};
 
 use crate::fault::{PastError, PastFault, PastKind};
@@ -43,7 +43,8 @@ fn ends_with(count: usize, tasks: &[PastTask], call: &[u8]) -> bool
 
 /// The task after those before it, where its call isn't full, and is that of the last one or a new one.
 fn beside(earlier: &[PastTask], task: PastTask) -> Result<PastTask, PastKind>
-    ensures { result ≡ beside earlier.now task }
+    ensures task { result ≡ beside earlier.now task }
+    ensures same { IfOk result (λ kept. kept ≡ task) }
 {
     if ends_with(MOST_TASKS as usize, earlier, task.call.as_bytes()) {
         return Err(PastKind::CallFull);
@@ -56,7 +57,8 @@ fn beside(earlier: &[PastTask], task: PastTask) -> Result<PastTask, PastKind>
 
 /// The task of a record after those of all records before it.
 fn task_after(earlier: &[PastTask], fields: &ByteRecord) -> Result<PastTask, PastKind>
-    ensures { result ≡ task_after earlier.now (fields_of fields.now) }
+    ensures task { result ≡ task_after earlier.now (fields_of fields.now) }
+    ensures ranges { IfOk result IsPastTask }
 {
     if earlier.len() >= MOST_PAST {
         return Err(PastKind::TooMany);
@@ -68,7 +70,9 @@ fn task_after(earlier: &[PastTask], fields: &ByteRecord) -> Result<PastTask, Pas
 /// The task of the record behind the header and those of these tasks.
 fn next_task(earlier: &[PastTask], fields: &ByteRecord) -> Result<PastTask, PastFault>
     requires { length earlier.now ≤ most_past }
-    ensures { result ≡ next_task earlier.now (fields_of fields.now) }
+    ensures task { result ≡ next_task earlier.now (fields_of fields.now) }
+    ensures few { IfOk result (λ _. length earlier.now < most_past) }
+    ensures ranges { IfOk result IsPastTask }
 {
     match task_after(earlier, fields) {
         Ok(task) => Ok(task),
@@ -81,7 +85,8 @@ fn next_task(earlier: &[PastTask], fields: &ByteRecord) -> Result<PastTask, Past
 
 /// The tasks of the records behind the header.
 fn read_tasks(alloc: Global, records: &[ByteRecord]) -> Result<Vec<PastTask>, PastError>
-    ensures { IsReading (λ tasks. tasks.items) (each next_task [] (map fields_of records.now)) result }
+    ensures tasks { IsReading (λ tasks. tasks.items) (each next_task [] (map fields_of records.now)) result }
+    ensures ranges { IfOk result (λ tasks. All IsPastTask tasks.items) }
 {
     let mut tasks = Vec::new(alloc);
     let mut rest = records;
@@ -108,7 +113,7 @@ fn read_past_tasks(alloc: Global, records: &[ByteRecord]) -> Result<Past, PastEr
     ensures { IsReading (λ past. past) (tasks_of (map fields_of records.now)) result }
 {
     let tasks = read_tasks(alloc, records)?;
-    if tasks.is_empty() {
+    if tasks.as_slice().is_empty() {
         drop(tasks);
         return Err(fault(2, PastKind::Empty));
     }

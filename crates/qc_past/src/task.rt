@@ -1,7 +1,8 @@
 //! One past task.
 
-ghost use Rattle.std.specs.Prelude.{◌≡◌};
+ghost use Rattle.std.specs.Prelude.{◌≡◌, IfOk};
 ghost use Rattle.csv.specs.Records.{fields_of};
+ghost use Rattle.qc_past.specs.Past.{IsPastTask};
 ghost use Rattle.qc_past.specs.Tasks.{task_in};
 
 use crate::call::CallName;
@@ -29,7 +30,8 @@ pub struct PastTask {
 impl PastTask {
     /// The task that the fields of a record write, or the first fault of them.
     pub(crate) fn read(fields: &ByteRecord) -> Result<PastTask, PastKind>
-        ensures { result ≡ task_in (fields_of fields.now) }
+        ensures task { result ≡ task_in (fields_of fields.now) }
+        ensures ranges { IfOk result IsPastTask }
     {
         if fields.len() != 4 {
             return Err(PastKind::Fields);
