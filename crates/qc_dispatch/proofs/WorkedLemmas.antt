@@ -128,7 +128,7 @@ module _ (c : Course) (tasks : List Task) (sched : List Slot) (valid : Valid c.i
       let is = cond-false _ 0 (berth_clear c.inst v (crane_of c.plan j) (bay_of c.inst j)) far in
       omega (arith, free, waits, is)
 
-  worked : Feasible real sched
+  pub worked : Feasible real sched
   worked = record {
     all_tasks = w.slots_count ∙ sym w.tasks_count;
     crane_range = λ j low. subst (λ (k : ℕ). k < length c.inst.cranes) (sym (w.cranes j (lower low))) (plan.crane_range j (lower low));
