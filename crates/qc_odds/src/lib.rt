@@ -1,0 +1,18 @@
+//! The chance that a finishing time is kept: a plan is worked many times, with lengths that tasks of past calls
+//! really took.
+//!
+//! `lengths` draws the lengths of a run. A `Course` works a plan with them in one pass: its order is followed, and
+//! each task starts at the first moment at which the rules allow it, which gives the least of all starts in that
+//! order.
+#![tactic(auto)]
+
+mod course;
+mod draw;
+mod lengths;
+mod order;
+mod pass;
+mod pool;
+
+pub use course::Course;
+pub use draw::draw;
+pub use lengths::lengths;
