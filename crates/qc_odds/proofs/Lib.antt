@@ -1,3 +1,10 @@
 pub mod DrawLemmas
 pub mod PoolLemmas
 pub mod LengthLemmas
+pub mod OrderLemmas
+pub mod DueLemmas
+pub mod PassLemmas
+pub mod EndLemmas
+pub mod WorkLemmas
+pub mod RiseLemmas
+pub mod PromptLemmas

@@ -8,6 +8,7 @@
 
 mod course;
 mod draw;
+mod laws;
 mod lengths;
 mod order;
 mod pass;

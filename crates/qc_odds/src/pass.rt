@@ -1,12 +1,12 @@
 //! One pass over the tasks, which gives all starts.
 
-ghost use Rattle.std.specs.Prelude.{◌≡◌, ℕ, ◌+◌, ◌*◌, ◌<◌, ◌≤◌, length, slice_index};
-ghost use Rattle.qc_model.specs.declared.limits.TheConstants.{MOST_TASKS};
+ghost use Rattle.std.specs.Prelude.{◌≡◌, ℕ, ◌+◌, ◌<◌, ◌≤◌, length};
+ghost use Rattle.qc_model.specs.Numbers.{most_distance, most_ready};
 ghost use Rattle.qc_model.specs.Rules.{Feasible};
 ghost use Rattle.qc_dispatch.specs.Marks.{AreMarks};
 ghost use Rattle.qc_odds.specs.Course.{AreStarts, IsLastEnd, IsStart, end_in};
-ghost use Rattle.qc_odds.specs.Lengths.{AreLengths};
-ghost use Rattle.qc_odds.specs.Moments.{AreEarly, moment_by, most_moment};
+ghost use Rattle.qc_odds.specs.Lengths.{AreLengths, most_length};
+ghost use Rattle.qc_odds.specs.Moments.{AreEarly, most_moment};
 ghost use Rattle.qc_odds.specs.Order.{AreTurns};
 
 use crate::order::Turn;
@@ -30,7 +30,9 @@ fn due(
     requires count { length starts.now ≡ length inst.now.tasks }
     requires early { AreEarly starts.now most_moment }
     requires task { j < length inst.now.tasks }
-    ensures { IsStart inst.now slots.now (end_in lengths.now starts.now) j result }
+    ensures start { IsStart inst.now slots.now (end_in lengths.now starts.now) j result }
+    ensures soon { (moment : ℕ) → most_ready + most_distance ≤ moment → AreEarly starts.now moment
+        → result ≤ moment + (most_length + most_distance) }
 {
     let mut due = head(inst, j, slots[j as usize].crane);
     for i in 0..inst.task_count() {

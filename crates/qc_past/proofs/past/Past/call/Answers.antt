@@ -3,4 +3,4 @@ use Rattle.qc_past.specs.Past.{IsPastTask}
 use Rattle.qc_past.proofs.past.Past.call.Goals as goal
 
 pub returns-clause-past : goal.returns-clause-past
-returns-clause-past c = All-take IsPastTask _ _ (All-drop IsPastTask _ _ c.range_of.ensures.past.each_one)
+returns-clause-past c = All-take IsPastTask _ _ (All-drop IsPastTask _ _ c.range_of-from.ensures.past.each_one)

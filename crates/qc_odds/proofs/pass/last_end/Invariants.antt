@@ -1,0 +1,7 @@
+use Rattle.std.proofs.Common.{ℕ, ◌<◌, ◌≤◌, ◌≡◌, ◌+◌}
+use Rattle.qc_odds.specs.Moments.{most_moment}
+use Rattle.qc_odds.proofs.EndLemmas.{IsLastOf}
+use Rattle.qc_odds.proofs.pass.last_end.Given as goal
+
+abbrev pub invariant-loop-j : goal.invariant-loop-j
+invariant-loop-j l = IsLastOf l.lengths l.starts l.j l.last
