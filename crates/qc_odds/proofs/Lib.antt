@@ -8,3 +8,6 @@ pub mod EndLemmas
 pub mod WorkLemmas
 pub mod RiseLemmas
 pub mod PromptLemmas
+pub mod PlanLemmas
+pub mod TallyLemmas
+pub mod KeptLemmas

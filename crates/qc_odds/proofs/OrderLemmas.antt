@@ -1,5 +1,5 @@
 -- Turns that are sorted come behind those that lead them.
-use Rattle.std.proofs.Common.{◌≡◌, ◌≢◌, ◌==◌, ℕ, zero, suc, ◌+◌, ◌<◌, ◌≤◌, Bool, false, List, [], ◌∷◌, length, get_or, map, refl, sym, ap, subst, inl, inr, ◌∙◌, arith, All, AllPairs, Contains, slice_index}
+use Rattle.std.proofs.Common.{◌≡◌, ◌≢◌, ◌==◌, ℕ, zero, suc, ◌+◌, ◌<◌, ◌≤◌, Bool, false, List, [], ◌∷◌, length, get_or, map, refl, sym, ap, subst, inl, inr, ◌∙◌, arith, All, AllPairs, Contains, slice_index, zero-add}
 use Rattle.std.specs.List.{IsDistinct, range_with_len}
 use Rattle.std.specs.List.Sorted.{IsPermutation, IsSorted}
 use Rattle.std.specs.Ordering.{is_lt, nat_cmp, ordering_then}
@@ -94,7 +94,7 @@ module _ (inst : InstanceView) (plan : List Slot) (turns : List Turn)
   there : (j : ℕ) → j < n → ComesAhead turns (length turns) j
   there j lt =
       let (k, low, is) = Contains-permutation (range_with_len 0 n) (map (λ (t : Turn). t.task) turns) j numbers
-      (j, omega (arith, length-range_with_len 0 n), get_or-range_with_len 0 n j j lt) in
+      (j, omega (arith, length-range_with_len 0 n), get_or-range_with_len 0 n j j lt ∙ zero-add j) in
       let within : k < length turns = omega (arith, low, length-map turns (λ (t : Turn). t.task)) in
       record { place = k; ahead = within; is = get_or-map (λ (t : Turn). t.task) turns k no_turn 0 within ∙ sym (get_or-map (λ (t : Turn). t.task) turns k no_turn j within) ∙ is }
 

@@ -52,7 +52,7 @@ module _ (inst : InstanceView) (plan : List Slot) (lengths starts : List ℕ) (v
   abbrev n : ℕ
   n = length inst.tasks
 
-  stage : ℕ → Stage
+  abbrev stage : ℕ → Stage
   stage j = Ended (slice_index starts j) (end_in lengths starts j)
 
   abbrev course : Course
@@ -65,11 +65,9 @@ module _ (inst : InstanceView) (plan : List Slot) (lengths starts : List ℕ) (v
   stage_past j high = get_or-eq_default (map stage (range_with_len 0 n)) Waiting (let e = length-map-range_with_len stage 0 n in omega arith)
 
   start_is : (j : ℕ) → j < n → start_at course j ≡ Some (slice_index starts j)
-  unfolding stage
   start_is j low = ap start_in (stage_is j low)
 
   end_is : (j : ℕ) → j < n → end_at course j ≡ Some (end_in lengths starts j)
-  unfolding stage
   end_is j low = ap stage_end (stage_is j low)
 
   may_by : (j : ℕ) (low : j < n) → MayStartBy inst plan (end_in lengths starts) j (slice_index starts j)

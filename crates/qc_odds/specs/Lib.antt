@@ -3,6 +3,7 @@ pub mod Pools
 pub mod Kinds
 pub mod Lengths
 pub mod Course
+pub mod Tally
 pub mod Moments
 pub mod Order
 pub mod Kept

@@ -6,8 +6,8 @@ ghost use Rattle.qc_dispatch.specs.Course.{Course as Dispatched};
 ghost use Rattle.qc_dispatch.specs.Worked.{IsWorked};
 ghost use Rattle.qc_model.specs.declared.schedule.Slot.{Slot};
 ghost use Rattle.qc_model.specs.declared.task.Task.{Task};
-ghost use Rattle.qc_model.specs.Instance.{InstanceView, Valid};
-ghost use Rattle.qc_model.specs.Rules.{Feasible};
+ghost use Rattle.qc_model.specs.Instance.{InstanceView, Valid, ticks_of};
+ghost use Rattle.qc_model.specs.Rules.{Feasible, start_of};
 ghost use Rattle.qc_odds.specs.Course.{AreStarts, with_lengths, with_starts};
 
 /// Worked with any lengths, a feasible plan gives a feasible schedule of the tasks with these lengths, on the cranes
@@ -33,4 +33,12 @@ fn courses_are_the_dispatchers()
         (sched : List Slot) → Valid inst → Feasible inst plan → Reaches (opening inst plan) calls after
         → IsWorked after tasks sched
         → AreStarts after.inst after.plan (map (λ t. t.ticks) tasks) (map (λ s. s.start) sched) }
+{}
+
+/// With tasks that are no longer than planned none starts later than planned.
+fn shorter_tasks_start_by_the_plan()
+    ensures { (inst : InstanceView) (plan : List Slot) → Valid inst → Feasible inst plan → (lengths starts : List ℕ)
+        → AreStarts inst plan lengths starts
+        → ((j : ℕ) → j < length inst.tasks → slice_index lengths j ≤ ticks_of inst j)
+        → (j : ℕ) → j < length inst.tasks → slice_index starts j ≤ start_of plan j }
 {}

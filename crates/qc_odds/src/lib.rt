@@ -7,13 +7,15 @@
 #![tactic(auto)]
 
 mod course;
-mod draw;
+mod draws;
 mod laws;
-mod lengths;
 mod order;
 mod pass;
 mod pool;
+mod run_lengths;
+mod tally;
 
 pub use course::Course;
-pub use draw::draw;
-pub use lengths::lengths;
+pub use draws::draw;
+pub use run_lengths::lengths;
+pub use tally::Tally;

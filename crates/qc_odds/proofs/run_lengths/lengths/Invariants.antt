@@ -1,7 +1,7 @@
 use Rattle.std.proofs.Common.{◌≡◌, ◌<◌, ◌≤◌, ℕ, length, slice_index}
 use Rattle.qc_model.specs.Instance.{task}
 use Rattle.qc_odds.specs.Lengths.{length_of, most_length}
-use Rattle.qc_odds.proofs.lengths.lengths.Given as goal
+use Rattle.qc_odds.proofs.run_lengths.lengths.Given as goal
 
 abbrev pub invariant-loop-j : goal.invariant-loop-j
 invariant-loop-j l = record {

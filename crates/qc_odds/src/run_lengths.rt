@@ -10,7 +10,7 @@ ghost use Rattle.qc_odds.specs.Draws.{draw};
 ghost use Rattle.qc_odds.specs.Lengths.{AreDrawn, AreLengths, as_long_as, call_of_run, most_length, picked};
 ghost use Rattle.qc_odds.specs.Pools.{pool_of};
 
-use crate::draw::draw;
+use crate::draws::draw;
 use crate::pool::pick;
 use qc_model::{Instance, Task};
 use qc_num::Tick;

@@ -1,5 +1,5 @@
 use Rattle.qc_odds.proofs.DrawLemmas.{next_wraps}
-use Rattle.qc_odds.proofs.draw.next_state.Goals as goal
+use Rattle.qc_odds.proofs.draws.next_state.Goals as goal
 
 pub returns : goal.returns
 returns c = rw (c.wrapping_add.ensures, c.wrapping_mul.ensures) (next_wraps c.args.x)
