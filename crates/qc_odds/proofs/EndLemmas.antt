@@ -1,7 +1,7 @@
 -- The last end of the first so many tasks.
 use Rattle.std.proofs.Common.{◌≡◌, ℕ, ◌+◌, ◌<◌, ◌≤◌, ◌↔◌, max, inl, inr, List, length, subst, arith}
 use Rattle.std.proofs.lemmas.Bool.{cases_eq}
-use Rattle.qc_odds.specs.Course.{IsLastEnd, end_in}
+use Rattle.qc_odds.specs.Course.{end_in}
 
 module _ (lengths starts : List ℕ) where
   abbrev pub IsLastOf : (n last : ℕ) → Type 0

@@ -36,8 +36,12 @@ no_sooner x y h = elim (cases_order x.start y.start) [
 ]
 
 -- what stands past the end
-no_turn : Turn
+abbrev pub no_turn : Turn
 no_turn = record { start = 0; task = 0 }
+
+-- the task at a place, as it is read
+pub task_read : (turns : List Turn) (at : ℕ) → at < length turns → task_at turns at ≡ (get_or turns at no_turn).task
+task_read turns at lt = get_or-map (λ (t : Turn). t.task) turns at no_turn 0 lt
 
 numbers_are : (plan : List Slot) (xs : List ℕ) → map (λ (t : Turn). t.task) (map (turn_of plan) xs) ≡ xs
 numbers_are plan [] = refl
@@ -82,14 +86,11 @@ module _ (inst : InstanceView) (plan : List Slot) (turns : List Turn)
       subst (λ (ns : List ℕ). IsPermutation ns (map (λ (t : Turn). t.task) turns)) (numbers_are plan (range_with_len 0 n))
       (IsPermutation-map (λ (t : Turn). t.task) (map (turn_of plan) (range_with_len 0 n)) turns permutation)
 
-  task_is : (at : ℕ) → at < length turns → task_at turns at ≡ (get_or turns at no_turn).task
-  task_is at lt = get_or-map (λ (t : Turn). t.task) turns at no_turn 0 lt
-
   inside : (at : ℕ) → at < length turns → task_at turns at < n
-  inside at lt = rw (task_is at lt) (all_turns at no_turn lt).low
+  inside at lt = rw (task_read turns at lt) (all_turns at no_turn lt).low
 
   start_is : (at : ℕ) → at < length turns → (get_or turns at no_turn).start ≡ start_of plan (task_at turns at)
-  start_is at lt = (all_turns at no_turn lt).is ∙ ap (start_of plan) (sym (task_is at lt))
+  start_is at lt = (all_turns at no_turn lt).is ∙ ap (start_of plan) (sym (task_read turns at lt))
 
   there : (j : ℕ) → j < n → ComesAhead turns (length turns) j
   there j lt =

@@ -1,29 +1,36 @@
 -- The k-th of sorted ends is the first tick by which k have come.
-use Rattle.std.proofs.Common.{◌≡◌, ℕ, zero, suc, ◌+◌, ◌-◌, ◌<◌, ◌≤◌, ◌∷◌, List, [], length, get_or, Bool, true, false, count_by, nat_le, cond, inl, inr, arith}
+use Rattle.std.proofs.Common.{◌≡◌, ℕ, zero, suc, ◌+◌, ◌-◌, ◌<◌, ◌≤◌, ◌∷◌, List, [], length, get_or, Bool, true, false, count_by, nat_le, cond, ap, inl, inr, arith}
 use Rattle.std.specs.List.Sorted.{IsPermutation, IsSorted}
 use Rattle.std.specs.Ordering.{is_lt, nat_cmp}
-use Rattle.std.proofs.lemmas.Bool.{cases_Bool, cases_lt, le-leb, lt-leb, lt-ltb}
+use Rattle.std.proofs.lemmas.Bool.{cases_lt, cond_both, le-leb, lt-leb, lt-ltb}
 use Rattle.std.proofs.lemmas.Cmp.{nat_cmp_total}
 use Rattle.std.proofs.lemmas.List.MinMax.{ranks_by}
+use Rattle.std.proofs.lemmas.List.Sums.{sum_by-cons}
 use Rattle.std.proofs.lemmas.List.Sorted.{sorted_far, sum_by-IsPermutation}
 use Rattle.qc_odds.specs.Tally.{IsDoneBy, ends_by}
+
+-- one end more
+count_step : (p : ℕ → Bool) (x : ℕ) (xs : List ℕ) → count_by p (x ∷ xs) ≡ cond (p x) 1 0 + count_by p xs
+count_step p x xs = sum_by-cons (λ y. cond (p y) 1 0) x xs
 
 count_least : (p : ℕ → Bool) (xs : List ℕ) (k : ℕ) → k ≤ length xs → ((i : ℕ) → i < k → p (get_or xs i 0) ≡ true) → k ≤ count_by p xs
 count_least p xs zero few pass = omega arith
 count_least p [] (suc k) few pass = absurd (omega arith)
 count_least p (x ∷ xs) (suc k) few pass =
-    rw (pass 0 (omega arith)) (let rest = count_least p xs k (omega arith) (λ i low. pass (suc i) (omega arith)) in omega arith)
-
-count_none : (p : ℕ → Bool) (xs : List ℕ) → ((i : ℕ) → i < length xs → p (get_or xs i 0) ≡ false) → count_by p xs ≤ 0
-count_none p [] fail = omega arith
-count_none p (x ∷ xs) fail = rw (fail 0 (omega arith)) (let rest = count_none p xs (λ i low. fail (suc i) (omega arith)) in omega arith)
+    let one : ◌≡◌ {A = ℕ} (cond (p x) 1 0) 1 = ap (λ (b : Bool). cond b 1 0) (pass 0 (omega arith)) in
+    let rest = count_least p xs k (omega arith) (λ i low. pass (suc i) (omega arith)) in
+    omega (arith, count_step p x xs, one, rest)
 
 count_most : (p : ℕ → Bool) (xs : List ℕ) (k : ℕ) → ((i : ℕ) → k ≤ i → i < length xs → p (get_or xs i 0) ≡ false) → count_by p xs ≤ k
-count_most p xs zero fail = count_none p xs (λ i low. fail i (omega arith) low)
-count_most p [] (suc k) fail = omega arith
+count_most p [] k fail = omega arith
+count_most p (x ∷ xs) zero fail =
+    let none : ◌≡◌ {A = ℕ} (cond (p x) 1 0) 0 = ap (λ (b : Bool). cond b 1 0) (fail 0 (omega arith) (omega arith)) in
+    let rest = count_most p xs zero (λ i from low. fail (suc i) (omega arith) (omega arith)) in
+    omega (arith, count_step p x xs, none, rest)
 count_most p (x ∷ xs) (suc k) fail =
+    let one : cond (p x) 1 0 ≤ 1 = cond_both (p x) 1 0 (λ n. n ≤ 1) (λ _. omega arith) (λ _. omega arith) in
     let rest = count_most p xs k (λ i from low. fail (suc i) (omega arith) (omega arith)) in
-    elim (cases_Bool (p x)) [ inl yes' ↦ rw yes' (omega arith) | inr no' ↦ rw no' (omega arith) ]
+    omega (arith, count_step p x xs, one, rest)
 
 module _ (ends : List ℕ) (sorted : IsSorted nat_cmp ends) (k : ℕ) (some : 1 ≤ k) (few : k ≤ length ends) where
   rises : (i j : ℕ) → i ≤ j → j < length ends → get_or ends i 0 ≤ get_or ends j 0

@@ -25,10 +25,9 @@ pub record AreStarts (inst : InstanceView) (plan : List Slot) (lengths starts : 
   pub count : length starts ≡ length inst.tasks
   pub each_one : (j : ℕ) → j < length inst.tasks → IsStart inst plan (end_in lengths starts) j (slice_index starts j)
 
--- the last end of all tasks, 0 without tasks
-abbrev pub IsLastEnd : (lengths starts : List ℕ) → ℕ → Type 0
-IsLastEnd lengths starts last =
-    (moment : ℕ) → (last ≤ moment) ↔ ((j : ℕ) → j < length starts → end_in lengths starts j ≤ moment)
+-- the last end of all tasks, 0 without tasks: it comes by a moment exactly where all of them do
+pub record IsLastEnd (lengths starts : List ℕ) (last : ℕ) : Type 0 where
+  pub each_by : (moment : ℕ) → (last ≤ moment) ↔ ((j : ℕ) → j < length starts → end_in lengths starts j ≤ moment)
 
 -- a plan that is worked with ever new lengths, and the starts of the last time
 pub record CourseView : Type 0 where

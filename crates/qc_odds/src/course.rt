@@ -8,7 +8,7 @@ ghost use Rattle.qc_odds.specs.Lengths.{AreLengths};
 ghost use Rattle.qc_odds.specs.Order.{AreTurns};
 
 use crate::order::{Turn, turns_of};
-use crate::pass::{last_end, pass};
+use crate::pass::work;
 use qc_dispatch::lead_marks;
 use qc_model::{Instance, Schedule, Slot, copy};
 use qc_num::{OutOfMemory, Tick};
@@ -124,15 +124,14 @@ impl Course {
         ensures starts { AreStarts self.new.inst self.new.plan lengths.now self.new.starts }
         ensures end { IsLastEnd lengths.now self.new.starts result }
     {
-        pass(
+        work(
             &self.inst,
             self.slots.as_slice(),
             self.marks.as_slice(),
             self.turns.as_slice(),
             lengths,
             self.starts.as_mut_slice(),
-        );
-        last_end(lengths, self.starts.as_slice())
+        )
     }
 
     /// The starts of the tasks, as the plan was last worked.

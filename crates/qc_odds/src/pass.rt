@@ -55,7 +55,7 @@ fn clear(starts: &mut [Tick])
 }
 
 /// Fills in the starts of all tasks, one after the other in the order of their turns.
-pub(crate) fn pass(
+fn pass(
     inst: &Instance,
     slots: &[Slot],
     marks: &[bool],
@@ -80,15 +80,36 @@ pub(crate) fn pass(
 }
 
 /// The last end of all tasks, 0 without tasks.
-pub(crate) fn last_end(lengths: &[Tick], starts: &[Tick]) -> Tick
+fn last_end(lengths: &[Tick], starts: &[Tick]) -> Tick
     requires count { length lengths.now ≡ length starts.now }
     requires lengths { AreEarly lengths.now most_moment }
     requires starts { AreEarly starts.now most_moment }
     ensures { IsLastEnd lengths.now starts.now result }
 {
-    let mut last = 0;
+    let mut last: Tick = 0;
     for (j, start) in starts.iter().enumerate() {
         last = last.max(*start + lengths[j]);
     }
     last
+}
+
+/// Fills in the starts of all tasks, and tells the last end.
+pub(crate) fn work(
+    inst: &Instance,
+    slots: &[Slot],
+    marks: &[bool],
+    turns: &[Turn],
+    lengths: &[Tick],
+    starts: &mut [Tick],
+) -> Tick
+    requires plan { Feasible inst.now slots.now }
+    requires marks { AreMarks inst.now slots.now marks.now }
+    requires turns { AreTurns inst.now slots.now turns.now }
+    requires lengths { AreLengths inst.now lengths.now }
+    requires count { length starts.old ≡ length inst.now.tasks }
+    ensures starts { AreStarts inst.now slots.now lengths.now starts.new }
+    ensures end { IsLastEnd lengths.now starts.new result }
+{
+    pass(inst, slots, marks, turns, lengths, starts);
+    last_end(lengths, starts)
 }

@@ -2,8 +2,7 @@
 
 ghost use Rattle.std.specs.Prelude.{◌≡◌, ℕ, ◌+◌, ◌<◌, ◌≤◌, ◌^◌, [], ◌∷◌, ◌++◌, IfOk, length, sum};
 ghost use Rattle.std.specs.Int.{div_ceil};
-ghost use Rattle.std.specs.List.Sorted.{IsPermutation, IsSorted};
-ghost use Rattle.std.specs.Ordering.{nat_cmp};
+ghost use Rattle.std.specs.List.Sorted.{IsPermutation};
 ghost use Rattle.qc_odds.specs.Tally.{IsDoneBy, chance, ends_by, share};
 
 use qc_num::{OutOfMemory, Tick};
@@ -76,9 +75,19 @@ impl Tally {
         ensures room { self.new.room ≡ self.old.room }
     {
         let count = (percent as usize * self.ends.len()).div_ceil(100);
-        self.ends.as_mut_slice().sort_unstable();
-        self.ends[count - 1]
+        first_by(self.ends.as_mut_slice(), count)
     }
+}
+
+/// The first tick by which so many of these ends have come. They are sorted behind it.
+fn first_by(ends: &mut [Tick], count: usize) -> Tick
+    requires some { 1 ≤ count }
+    requires few { count ≤ length ends.old }
+    ensures done { IsDoneBy ends.old count result }
+    ensures same { IsPermutation ends.old ends.new }
+{
+    ends.sort_unstable();
+    ends[count - 1]
 }
 
 /// How many of these ends come by a tick.

@@ -27,10 +27,10 @@ loop-i-preserved c =
       | then-marks-cell w ↦
           let marked : mark marks i j ≡ true = sym at ∙ w.if-marks-cell.true in
           let this = due_next inst plan ends j i c.loop-i.due (says.0 marked) c.loop-i.invariant.is in
-          let is = w.max.ensures ∙ ap (λ (t : ℕ). max c.loop-i.due (ends i + t)) w.gap.ensures.ticks in
+          let is = w.max-due.ensures ∙ ap (λ (t : ℕ). max c.loop-i.due (ends i + t)) w.gap.ensures.ticks in
           rw w.due-is (record {
             is = subst (λ (d : ℕ). IsDue inst plan ends j (i + 1) d) (sym is) this;
-            soon = λ moment late early. omega (arith, w.max.ensures, w.gap.ensures.bound, c.loop-i.invariant.soon moment late early, early i, c.requires.lengths.few i low);
+            soon = λ moment late early. omega (arith, w.max-due.ensures, w.gap.ensures.bound, c.loop-i.invariant.soon moment late early, early i, c.requires.lengths.few i low);
           })
       | else-marks-cell w ↦
           let unmarked : mark marks i j ≡ false = sym at ∙ w.if-marks-cell.false in
