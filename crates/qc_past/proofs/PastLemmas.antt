@@ -1,5 +1,5 @@
 -- What past tasks keep, by the readings that they come of.
-use Rattle.std.proofs.Common.{◌≡◌, ◌≢◌, ◌<◌, ◌≤◌, ◌+◌, ◌-◌, ◌++◌, ◌∷◌, ◌||◌, ℕ, zero, suc, List, [], length, get_or, drop, All, Bool, true, false, not, nat_le, nat_lt, Result, Ok, refl, sym, ap, subst, inl, inr, ◌∙◌, arith}
+use Rattle.std.proofs.Common.{◌≡◌, ◌≢◌, ◌<◌, ◌≤◌, ◌+◌, ◌-◌, ◌++◌, ◌∷◌, ◌||◌, ℕ, List, [], length, drop, All, true, false, not, nat_le, nat_lt, Ok, sym, ap, subst, inl, inr, ◌∙◌, arith}
 use Rattle.std.specs.List.{list_all, list_any}
 use Rattle.std.proofs.lemmas.Bool.{and_from, and_parts, cases_eq, cases_lt, false≢true, le-leb, ltb-true, not-true, or_cases}
 use Rattle.std.proofs.lemmas.List.{get_or-drop, get_or_append_left, get_or_default, length-drop, length_push}

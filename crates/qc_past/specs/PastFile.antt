@@ -1,5 +1,5 @@
 -- public: a file of past tasks: the tasks that its records write, or the fault of the first faulty record.
-use Rattle.std.specs.Prelude.{ℕ, ◌+◌, ◌-◌, List, [], ◌∷◌, length, take, drop, not, Bool, ◌&&◌, ◌||◌, ◌==◌, nat_le, nat_lt, Result, Ok, Err}
+use Rattle.std.specs.Prelude.{ℕ, ◌+◌, ◌-◌, List, [], ◌∷◌, length, take, drop, not, Bool, ◌&&◌, ◌||◌, nat_le, nat_lt, Result, Ok, Err}
 use Rattle.std.specs.List.{list_all, list_any}
 use Rattle.qc_num.specs.Reading.{◌>>=◌, each, require, with_fault}
 use Rattle.qc_lines.specs.Records.{records_of}
