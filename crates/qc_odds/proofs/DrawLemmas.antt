@@ -1,5 +1,5 @@
 -- Draws by numbers that wrap.
-use Rattle.std.proofs.Common.{◌≡◌, ℕ, ◌+◌, ◌*◌, ◌%◌, ◌^◌, ◌∙◌, ap, sym, arith}
+use Rattle.std.proofs.Common.{◌≡◌, ℕ, ◌+◌, ◌*◌, ◌%◌, ◌^◌, ◌∙◌, ap, sym}
 use Rattle.std.proofs.Math.Nat.{mod-add-mod, mul_comm}
 use Rattle.std.proofs.lemmas.Nat.{mul-mod_first}
 use Rattle.qc_odds.specs.Draws.{mix, next_state, squared, swapped}

@@ -4,7 +4,7 @@ use Rattle.std.proofs.lemmas.Bool.{cases_eq}
 use Rattle.qc_dispatch.specs.Order.{Leads, free_of, gap}
 use Rattle.qc_model.specs.declared.schedule.Slot.{Slot}
 use Rattle.qc_model.specs.Instance.{InstanceView}
-use Rattle.qc_odds.specs.Course.{IsStart, MayStartBy}
+use Rattle.qc_odds.specs.Course.{IsStart}
 
 module _ (inst : InstanceView) (plan : List Slot) (ends : ℕ → ℕ) (j : ℕ) where
   -- by this moment task j may start for its crane and for the first n tasks

@@ -4,7 +4,6 @@ use Rattle.qc_dispatch.specs.Marks.{AreMarks}
 use Rattle.qc_model.specs.declared.schedule.Slot.{Slot}
 use Rattle.qc_model.specs.Instance.{InstanceView}
 use Rattle.qc_model.specs.Rules.{Feasible}
-use Rattle.qc_odds.specs.Course.{AreStarts, CourseView}
 use Rattle.qc_odds.specs.Kept.{AreKept}
 use Rattle.qc_odds.specs.Order.{AreTurns}
 use Rattle.qc_odds.specs.declared.order.Turn.{Turn}

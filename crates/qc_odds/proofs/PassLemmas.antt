@@ -1,5 +1,5 @@
 -- One pass over the tasks gives all starts.
-use Rattle.std.proofs.Common.{◌≡◌, ◌≢◌, ℕ, ◌+◌, ◌*◌, ◌<◌, ◌≤◌, inl, inr, List, length, get_or, slice_index, slice_set, refl, ap, sym, subst, ◌∙◌, arith}
+use Rattle.std.proofs.Common.{◌≡◌, ◌≢◌, ℕ, ◌+◌, ◌<◌, ◌≤◌, inl, inr, List, length, slice_index, slice_set, refl, ap, sym, subst, ◌∙◌, arith}
 use Rattle.std.proofs.lemmas.Bool.{cases_eq}
 use Rattle.std.proofs.lemmas.Grind.{get_or-set_at}
 use Rattle.std.proofs.lemmas.List.{get_or-set_other, length-set}
@@ -9,7 +9,7 @@ use Rattle.qc_model.specs.Instance.{InstanceView}
 use Rattle.qc_model.specs.Rules.{start_of}
 use Rattle.qc_odds.specs.Course.{AreStarts, IsStart, MayStartBy, end_in}
 use Rattle.qc_odds.specs.Moments.{AreEarly, moment_by}
-use Rattle.qc_odds.specs.Order.{AreTurns, ComesAhead, task_at}
+use Rattle.qc_odds.specs.Order.{AreTurns, task_at}
 use Rattle.qc_odds.specs.declared.order.Turn.{Turn}
 
 module _ (inst : InstanceView) (plan : List Slot) (turns : List Turn) (lengths : List ℕ) where

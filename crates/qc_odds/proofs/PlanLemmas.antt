@@ -10,7 +10,7 @@ use Rattle.qc_model.specs.Rules.{Feasible, IsClear, crane_of, end_of, slot_dista
 use Rattle.qc_model.specs.Ticks.{berth_distance, travel_between}
 use Rattle.qc_model.proofs.Extremes.{greatest_le}
 use Rattle.qc_model.proofs.NodeLemmas.{one_crane_apart}
-use Rattle.qc_odds.specs.Course.{AreStarts, MayStartBy}
+use Rattle.qc_odds.specs.Course.{AreStarts}
 use Rattle.qc_odds.proofs.RiseLemmas.{no_later}
 
 module _ (inst : InstanceView) (plan : List Slot) (valid : Valid inst) (feasible : Feasible inst plan) where

@@ -1,24 +1,22 @@
 -- A dispatcher starts each task at the first moment at which it may, whatever is reported and when.
-use Rattle.std.proofs.Common.{◌≡◌, ◌≢◌, ◌⊎◌, ℕ, ◌+◌, ◌<◌, ◌≤◌, inl, inr, Option, None, Some, IfSome, Result, Ok, Err, List, [], ◌∷◌, length, map, get_or, slice_index, slice_set, refl, sym, ap, subst, ◌∙◌, arith}
+use Rattle.std.proofs.Common.{◌≡◌, ◌≢◌, ◌⊎◌, ℕ, ◌+◌, ◌<◌, ◌≤◌, inl, inr, Option, None, Some, IfSome, Result, Ok, Err, List, [], ◌∷◌, length, map, get_or, slice_index, slice_set, sym, ap, subst, ◌∙◌, arith}
 use Rattle.std.specs.Prelude.{IsSomeAnd, ⊤}
-use Rattle.std.proofs.lemmas.Bool.{cases_eq, cases_lt}
+use Rattle.std.proofs.lemmas.Bool.{cases_lt}
 use Rattle.std.proofs.lemmas.List.{get_or-map, length-map}
-use Rattle.qc_dispatch.specs.declared.stage.Stage.{Stage}
 use Rattle.qc_dispatch.specs.declared.stage.Stage.TheVariants.{Waiting, Running, Ended}
 use Rattle.qc_dispatch.specs.declared.grant.Grant.{Grant}
 use Rattle.qc_dispatch.specs.declared.grant.NotRunning.{NotRunning}
 use Rattle.qc_dispatch.specs.Calls.{Advance, Call, Done, IsCalled, Reaches, opening}
-use Rattle.qc_dispatch.specs.Course.{Course, IsAdvanced, IsEnded, IsOver, IsPassed, IsReported, MayStart, end_at, end_in as stage_end, stage_of, start_at, start_in, started}
+use Rattle.qc_dispatch.specs.Course.{Course, IsAdvanced, IsOver, IsReported, MayStart, end_at, end_in as stage_end, stage_of, start_at, start_in, started}
 use Rattle.qc_dispatch.specs.Kept.{IsCourse}
 use Rattle.qc_dispatch.specs.Order.{Leads, free_of, gap}
-use Rattle.qc_dispatch.specs.Worked.{IsWorked, with_tasks}
-use Rattle.qc_dispatch.proofs.CallLemmas.{reaches}
+use Rattle.qc_dispatch.specs.Worked.{IsWorked}
 use Rattle.qc_dispatch.proofs.CourseLemmas.{end_started, goes_ended, goes_later, goes_started, none_started, opens, stage_set}
 use Rattle.qc_model.specs.declared.schedule.Slot.{Slot}
 use Rattle.qc_model.specs.declared.task.Task.{Task}
 use Rattle.qc_model.specs.Instance.{InstanceView, Valid, no_task}
-use Rattle.qc_model.specs.Rules.{Feasible, end_of, no_slot, start_of}
-use Rattle.qc_odds.specs.Course.{AreStarts, MayStartBy, end_in}
+use Rattle.qc_model.specs.Rules.{Feasible, no_slot, start_of}
+use Rattle.qc_odds.specs.Course.{AreStarts, end_in}
 
 -- by this moment task j may start, or might have
 record MayBe (c : Course) (j moment : ℕ) : Type 0 where

@@ -1,10 +1,9 @@
 -- Longer tasks start no sooner, so the starts are one.
-use Rattle.std.proofs.Common.{◌≡◌, ℕ, zero, suc, ◌+◌, ◌<◌, ◌≤◌, List, length, slice_index, arith}
-use Rattle.qc_dispatch.specs.Order.{Leads, free_of, gap}
+use Rattle.std.proofs.Common.{ℕ, zero, suc, ◌+◌, ◌<◌, ◌≤◌, List, length, slice_index, arith}
 use Rattle.qc_model.specs.declared.schedule.Slot.{Slot}
 use Rattle.qc_model.specs.Instance.{InstanceView}
 use Rattle.qc_model.specs.Rules.{start_of}
-use Rattle.qc_odds.specs.Course.{AreStarts, MayStartBy, end_in}
+use Rattle.qc_odds.specs.Course.{AreStarts, MayStartBy}
 
 module _ (inst : InstanceView) (plan : List Slot) (lengths starts : List ℕ) (are : AreStarts inst plan lengths starts) where
   -- starts that leave each task room, with lengths that are no less

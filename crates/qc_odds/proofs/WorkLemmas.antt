@@ -1,5 +1,5 @@
 -- A plan that was worked with other lengths is feasible with them.
-use Rattle.std.proofs.Common.{◌≡◌, ℕ, zero, suc, ◌+◌, ◌<◌, ◌≤◌, inl, inr, List, [], ◌∷◌, length, map, get_or, slice_index, slice_index_or, Option, Some, IfSome, refl, sym, ap, subst, ◌∙◌, arith}
+use Rattle.std.proofs.Common.{◌≡◌, ℕ, zero, suc, ◌+◌, ◌<◌, ◌≤◌, inl, inr, List, [], ◌∷◌, length, map, get_or, slice_index, Option, Some, IfSome, refl, sym, ap, subst, ◌∙◌, arith}
 use Rattle.std.specs.Prelude.{IsSomeAnd}
 use Rattle.std.specs.List.{range_with_len}
 use Rattle.std.proofs.Math.ListN.{get_or-eq_default}
@@ -16,7 +16,7 @@ use Rattle.qc_dispatch.proofs.WorkedLemmas.{worked}
 use Rattle.qc_model.specs.declared.schedule.Slot.{Slot}
 use Rattle.qc_model.specs.declared.task.Task.{Task}
 use Rattle.qc_model.specs.Instance.{InstanceView, Valid, no_task}
-use Rattle.qc_model.specs.Rules.{Feasible, crane_of, no_slot, start_of}
+use Rattle.qc_model.specs.Rules.{Feasible, no_slot, start_of}
 use Rattle.qc_odds.specs.Course.{AreStarts, MayStartBy, end_in, with_lengths, with_starts, with_ticks}
 
 -- ---- tasks and slots with other numbers

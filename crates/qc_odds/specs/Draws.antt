@@ -1,5 +1,5 @@
 -- public: numbers drawn by seed, run and text.
-use Rattle.std.specs.Prelude.{ℕ, ◌+◌, ◌*◌, ◌/◌, ◌%◌, ◌^◌, List, []}
+use Rattle.std.specs.Prelude.{ℕ, ◌+◌, ◌*◌, ◌/◌, ◌%◌, ◌^◌, List}
 use Rattle.std.specs.List.{fold}
 
 -- the next state of a linear congruential generator (Knuth's multiplier), in 64 bits

@@ -1,5 +1,5 @@
 -- public: which past tasks of a call stand for a task.
-use Rattle.std.specs.Prelude.{ℕ, ◌*◌, List, [], ◌∷◌, Bool, true, ◌&&◌, ◌==◌, nat_le, Option, None, Some}
+use Rattle.std.specs.Prelude.{◌*◌, List, [], ◌∷◌, Bool, true, ◌&&◌, ◌==◌, nat_le, Option, None, Some}
 use Rattle.std.specs.List.{filter}
 use Rattle.qc_model.specs.Tasks.{phase_rank}
 use Rattle.qc_model.specs.declared.task.Phase.{Phase}

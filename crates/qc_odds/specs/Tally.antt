@@ -1,5 +1,5 @@
 -- public: what the ends of many runs say.
-use Rattle.std.specs.Prelude.{◌≡◌, ℕ, ◌*◌, ◌/◌, ◌<◌, ◌≤◌, List, count_by, nat_le}
+use Rattle.std.specs.Prelude.{ℕ, ◌*◌, ◌/◌, ◌<◌, ◌≤◌, List, count_by, nat_le}
 use Rattle.std.specs.Int.{div_ceil}
 
 -- how many of these ends come by a tick

@@ -1,5 +1,5 @@
 use Rattle.std.proofs.Common.{◌≡◌, ◌+◌, ℕ, length, subst, sym, arith}
-use Rattle.qc_odds.proofs.EndLemmas.{IsLastOf, last_more, last_none}
+use Rattle.qc_odds.proofs.EndLemmas.{IsLastOf, last_more}
 use Rattle.qc_odds.proofs.pass.last_end.Goals as goal
 
 pub loop-j-preserved : goal.loop-j-preserved

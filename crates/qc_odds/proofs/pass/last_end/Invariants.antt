@@ -1,5 +1,3 @@
-use Rattle.std.proofs.Common.{ℕ, ◌<◌, ◌≤◌, ◌≡◌, ◌+◌}
-use Rattle.qc_odds.specs.Moments.{most_moment}
 use Rattle.qc_odds.proofs.EndLemmas.{IsLastOf}
 use Rattle.qc_odds.proofs.pass.last_end.Given as goal
 

@@ -1,8 +1,8 @@
-use Rattle.std.proofs.Common.{◌≡◌, ◌<◌, ◌≤◌, ◌+◌, ◌∙◌, ℕ, length, get_or, set, sym, subst, arith}
+use Rattle.std.proofs.Common.{◌<◌, ◌+◌, ◌∙◌, ℕ, length, set, sym, subst, arith}
 use Rattle.qc_odds.specs.Course.{IsStart, end_in}
 use Rattle.qc_odds.specs.Moments.{moment_by}
 use Rattle.qc_odds.specs.Order.{task_at}
-use Rattle.qc_odds.proofs.OrderLemmas.{no_turn, task_read}
+use Rattle.qc_odds.proofs.OrderLemmas.{task_read}
 use Rattle.qc_odds.proofs.PassLemmas.{IsPassed, all_passed, next_passed, none_passed}
 use Rattle.qc_odds.proofs.pass.pass.Goals as goal
 
