@@ -11,3 +11,5 @@ pub mod PromptLemmas
 pub mod PlanLemmas
 pub mod TallyLemmas
 pub mod KeptLemmas
+pub mod CriticalLemmas
+pub mod MarkLemmas

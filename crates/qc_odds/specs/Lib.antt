@@ -3,6 +3,7 @@ pub mod Pools
 pub mod Kinds
 pub mod Lengths
 pub mod Course
+pub mod Critical
 pub mod Tally
 pub mod Moments
 pub mod Order

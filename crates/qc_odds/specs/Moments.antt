@@ -1,4 +1,4 @@
--- inner: how late starts are at the latest.
+-- public: how late starts are at the latest.
 use Rattle.std.specs.Prelude.{ℕ, ◌+◌, ◌*◌, ◌≤◌, List, slice_index}
 use Rattle.qc_model.specs.Numbers.{most_distance, most_ready, most_tasks}
 use Rattle.qc_odds.specs.Lengths.{most_length}
@@ -13,3 +13,7 @@ moment_by tasks = most_ready + most_distance + tasks * (most_length + most_dista
 
 abbrev pub most_moment : ℕ
 most_moment = moment_by most_tasks
+
+-- no start is later than all tasks can be, one after the other
+pub record AreSoon (starts : List ℕ) : Type 0 where
+  pub each_one : AreEarly starts most_moment

@@ -4,9 +4,12 @@ ghost use Rattle.std.specs.Prelude.{◌≡◌, IfOk, length, replicate};
 ghost use Rattle.qc_model.specs.Rules.{Feasible};
 ghost use Rattle.qc_dispatch.specs.Marks.{AreMarks};
 ghost use Rattle.qc_odds.specs.Course.{AreStarts, IsLastEnd};
+ghost use Rattle.qc_odds.specs.Critical.{AreMarked};
 ghost use Rattle.qc_odds.specs.Lengths.{AreLengths};
+ghost use Rattle.qc_odds.specs.Moments.{AreSoon};
 ghost use Rattle.qc_odds.specs.Order.{AreTurns};
 
+use crate::critical::mark_critical;
 use crate::order::{Turn, turns_of};
 use crate::pass::work;
 use qc_dispatch::lead_marks;
@@ -123,6 +126,7 @@ impl Course {
         ensures plan { self.new.plan ≡ self.old.plan }
         ensures starts { AreStarts self.new.inst self.new.plan lengths.now self.new.starts }
         ensures end { IsLastEnd lengths.now self.new.starts result }
+        ensures soon { AreSoon self.new.starts }
     {
         work(
             &self.inst,
@@ -132,6 +136,26 @@ impl Course {
             lengths,
             self.starts.as_mut_slice(),
         )
+    }
+
+    /// Marks the critical tasks of the run that had these lengths and this last end: with a tick more of one of them
+    /// the run ends later, and of no other.
+    pub fn mark_critical(&self, lengths: &[Tick], last: Tick, marked: &mut [bool])
+        requires lengths { AreLengths self.now.inst lengths.now }
+        requires soon { AreSoon self.now.starts }
+        requires count { length marked.old ≡ length self.now.inst.tasks }
+        ensures { AreMarked self.now.inst self.now.plan lengths.now self.now.starts last marked.new }
+    {
+        mark_critical(
+            &self.inst,
+            self.slots.as_slice(),
+            self.marks.as_slice(),
+            self.turns.as_slice(),
+            lengths,
+            self.starts.as_slice(),
+            last,
+            marked,
+        );
     }
 
     /// The starts of the tasks, as the plan was last worked.

@@ -1,6 +1,6 @@
 //! What holds of a plan that is worked with other lengths.
 
-ghost use Rattle.std.specs.Prelude.{◌≡◌, ℕ, ◌<◌, ◌≤◌, List, length, map, slice_index};
+ghost use Rattle.std.specs.Prelude.{◌≡◌, ℕ, ◌<◌, ◌≤◌, ◌↔◌, Bool, IsTrue, List, length, map, slice_index};
 ghost use Rattle.qc_dispatch.specs.Calls.{Call, Reaches, opening};
 ghost use Rattle.qc_dispatch.specs.Course.{Course as Dispatched};
 ghost use Rattle.qc_dispatch.specs.Worked.{IsWorked};
@@ -8,7 +8,8 @@ ghost use Rattle.qc_model.specs.declared.schedule.Slot.{Slot};
 ghost use Rattle.qc_model.specs.declared.task.Task.{Task};
 ghost use Rattle.qc_model.specs.Instance.{InstanceView, Valid, ticks_of};
 ghost use Rattle.qc_model.specs.Rules.{Feasible, start_of};
-ghost use Rattle.qc_odds.specs.Course.{AreStarts, with_lengths, with_starts};
+ghost use Rattle.qc_odds.specs.Course.{AreStarts, IsLastEnd, with_lengths, with_starts};
+ghost use Rattle.qc_odds.specs.Critical.{AreMarked, is_marked, with_tick_more};
 
 /// Worked with any lengths, a feasible plan gives a feasible schedule of the tasks with these lengths, on the cranes
 /// of the plan.
@@ -41,4 +42,13 @@ fn shorter_tasks_start_by_the_plan()
         → AreStarts inst plan lengths starts
         → ((j : ℕ) → j < length inst.tasks → slice_index lengths j ≤ ticks_of inst j)
         → (j : ℕ) → j < length inst.tasks → slice_index starts j ≤ start_of plan j }
+{}
+
+/// The marked tasks are the critical ones: with a tick more of one the last end comes later, and of no other.
+fn marked_tasks_are_critical()
+    ensures { (inst : InstanceView) (plan : List Slot) (lengths starts : List ℕ) (last : ℕ) (marked : List Bool)
+        → length lengths ≡ length inst.tasks → AreStarts inst plan lengths starts → IsLastEnd lengths starts last
+        → AreMarked inst plan lengths starts last marked → (j : ℕ) → j < length inst.tasks
+        → (later : List ℕ) (after : ℕ) → AreStarts inst plan (with_tick_more lengths j) later
+        → IsLastEnd (with_tick_more lengths j) later after → IsTrue (is_marked marked j) ↔ (last < after) }
 {}

@@ -7,6 +7,7 @@
 #![tactic(auto)]
 
 mod course;
+mod critical;
 mod draws;
 mod laws;
 mod order;

@@ -6,7 +6,7 @@ ghost use Rattle.qc_model.specs.Rules.{Feasible};
 ghost use Rattle.qc_dispatch.specs.Marks.{AreMarks};
 ghost use Rattle.qc_odds.specs.Course.{AreStarts, IsLastEnd, IsStart, end_in};
 ghost use Rattle.qc_odds.specs.Lengths.{AreLengths, most_length};
-ghost use Rattle.qc_odds.specs.Moments.{AreEarly, most_moment};
+ghost use Rattle.qc_odds.specs.Moments.{AreEarly, AreSoon, most_moment};
 ghost use Rattle.qc_odds.specs.Order.{AreTurns};
 
 use crate::order::Turn;
@@ -109,6 +109,7 @@ pub(crate) fn work(
     requires count { length starts.old ≡ length inst.now.tasks }
     ensures starts { AreStarts inst.now slots.now lengths.now starts.new }
     ensures end { IsLastEnd lengths.now starts.new result }
+    ensures soon { AreSoon starts.new }
 {
     pass(inst, slots, marks, turns, lengths, starts);
     last_end(lengths, starts)
