@@ -8,7 +8,8 @@ use Rattle.qc_dispatch.specs.Calls.{Call, Reaches, opening}
 use Rattle.qc_dispatch.specs.Course.{Course, IsEnded, IsNotRunning, MayStart, end_at, end_in, left, past_moments, running, stage_of, started}
 use Rattle.qc_dispatch.specs.Kept.{AreKept, IsCourse}
 use Rattle.qc_dispatch.specs.Promises.{GoesOn, Keeps}
-use Rattle.qc_dispatch.specs.Waits.{AreLetGo, AreMarks, AreWaits}
+use Rattle.qc_dispatch.specs.Marks.{AreMarks}
+use Rattle.qc_dispatch.specs.Waits.{AreLetGo, AreWaits}
 use Rattle.qc_dispatch.proofs.CallLemmas.{reaches}
 use Rattle.qc_dispatch.proofs.CourseLemmas.{end_started, goes_ended, goes_later, goes_started, none_started, opens, stage_set}
 use Rattle.qc_dispatch.proofs.WaitLemmas.{waits_after, waits_same}

@@ -6,7 +6,8 @@ use Rattle.qc_dispatch.specs.declared.next.Next.{Next}
 use Rattle.qc_dispatch.specs.declared.waits.Wait.{Wait}
 use Rattle.qc_dispatch.specs.Course.{Course, IsAwaited, KeepsOff, WaitsFor, end_at}
 use Rattle.qc_dispatch.specs.Kept.{AreKept}
-use Rattle.qc_dispatch.specs.Waits.{IsFirst, IsNext, is_open, mark, open_start}
+use Rattle.qc_dispatch.specs.Marks.{mark}
+use Rattle.qc_dispatch.specs.Waits.{IsFirst, IsNext, is_open, open_start}
 use Rattle.qc_model.specs.Rules.{start_of}
 
 none_of : (o : Option ℕ) → is_none o ≡ true → o ≡ None

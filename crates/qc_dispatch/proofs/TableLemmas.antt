@@ -5,7 +5,8 @@ use Rattle.std.proofs.lemmas.Grind.{get_or-set_at}
 use Rattle.std.proofs.lemmas.List.{get_or-set_other, get_or_default, length-append, length-set}
 use Rattle.qc_dispatch.specs.declared.waits.Wait.{Wait}
 use Rattle.qc_dispatch.specs.Order.{Leads, gap}
-use Rattle.qc_dispatch.specs.Waits.{AreMarks, IsWait, let_go, mark, no_wait, wait_of}
+use Rattle.qc_dispatch.specs.Marks.{AreMarks, mark}
+use Rattle.qc_dispatch.specs.Waits.{IsWait, let_go, no_wait, wait_of}
 use Rattle.qc_model.specs.declared.schedule.Slot.{Slot}
 use Rattle.qc_model.specs.Instance.{InstanceView}
 

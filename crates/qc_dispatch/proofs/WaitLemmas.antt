@@ -6,7 +6,8 @@ use Rattle.qc_dispatch.specs.declared.stage.Stage.TheVariants.{Waiting}
 use Rattle.qc_dispatch.specs.Course.{Course, MayStart, end_at, stage_of}
 use Rattle.qc_dispatch.specs.Kept.{AreKept}
 use Rattle.qc_dispatch.specs.Order.{Leads, free_of, gap}
-use Rattle.qc_dispatch.specs.Waits.{AreLetGo, AreMarks, AreWaits, IsWait, is_open, let_go, mark, open_below, wait_of}
+use Rattle.qc_dispatch.specs.Marks.{AreMarks, mark}
+use Rattle.qc_dispatch.specs.Waits.{AreLetGo, AreWaits, IsWait, is_open, let_go, open_below, wait_of}
 use Rattle.qc_dispatch.proofs.Counts.{count_less_one, count_none, count_same, none_passes, tally}
 use Rattle.qc_model.specs.declared.schedule.Slot.{Slot}
 use Rattle.qc_model.specs.Instance.{InstanceView}

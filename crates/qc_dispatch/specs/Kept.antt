@@ -4,7 +4,8 @@ use Rattle.qc_dispatch.specs.declared.waits.Wait.{Wait}
 use Rattle.qc_dispatch.specs.declared.next.Next.{Next}
 use Rattle.qc_dispatch.specs.Course.{Course, MayStart, end_at, past_moments}
 use Rattle.qc_dispatch.specs.Promises.{Keeps}
-use Rattle.qc_dispatch.specs.Waits.{AreMarks, AreWaits}
+use Rattle.qc_dispatch.specs.Marks.{AreMarks}
+use Rattle.qc_dispatch.specs.Waits.{AreWaits}
 use Rattle.qc_model.specs.Instance.{Valid}
 use Rattle.qc_model.specs.Rules.{Feasible}
 

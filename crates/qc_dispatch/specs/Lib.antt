@@ -1,4 +1,5 @@
 pub mod Order
+pub mod Marks
 pub mod Course
 pub mod Promises
 pub mod Calls

@@ -1,25 +1,15 @@
 -- inner: what is kept of each task: how many of its leaders have no end yet, and when it may start for the others.
-use Rattle.std.specs.Prelude.{◌≡◌, ℕ, ◌+◌, ◌-◌, ◌*◌, ◌<◌, ◌≤◌, ◌↔◌, max, Bool, false, IsTrue, ◌&&◌, ◌==◌, nat_le, nat_lt, if◌then◌else◌, List, length, slice_index_or, count_by, Option, None, Some, is_none}
+use Rattle.std.specs.Prelude.{◌≡◌, ℕ, ◌+◌, ◌-◌, ◌<◌, ◌≤◌, ◌↔◌, max, Bool, ◌&&◌, ◌==◌, nat_le, nat_lt, if◌then◌else◌, List, length, slice_index_or, count_by, Option, None, Some, is_none}
 use Rattle.std.specs.List.{range_with_len}
 use Rattle.qc_dispatch.specs.declared.next.Next.{Next}
 use Rattle.qc_dispatch.specs.declared.stage.Stage.{Stage}
 use Rattle.qc_dispatch.specs.declared.waits.Wait.{Wait}
 use Rattle.qc_dispatch.specs.Course.{is_waiting}
+use Rattle.qc_dispatch.specs.Marks.{mark}
 use Rattle.qc_dispatch.specs.Order.{Leads, free_of, gap}
-use Rattle.qc_model.specs.declared.limits.TheConstants.{MOST_TASKS}
 use Rattle.qc_model.specs.declared.schedule.Slot.{Slot}
 use Rattle.qc_model.specs.Instance.{InstanceView}
 use Rattle.qc_model.specs.Rules.{start_of}
-
--- what a table of pairs of tasks holds for a pair
-abbrev pub mark : List Bool → ℕ → ℕ → Bool
-mark marks i j = slice_index_or marks (MOST_TASKS * i + j) false
-
--- the table says which task leads which
-pub record AreMarks (inst : InstanceView) (plan : List Slot) (marks : List Bool) : Type 0 where
-  pub count : length marks ≡ length inst.tasks * MOST_TASKS
-  pub says : (i j : ℕ) → i < length inst.tasks → j < length inst.tasks
-      → IsTrue (mark marks i j) ↔ Leads inst plan i j
 
 -- task i leads task j, and has no end
 abbrev pub is_open : List Bool → (ℕ → Option ℕ) → ℕ → ℕ → Bool

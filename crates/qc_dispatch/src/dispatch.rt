@@ -7,7 +7,8 @@ ghost use Rattle.qc_dispatch.specs.Calls.{Call, Reaches, opening};
 ghost use Rattle.qc_dispatch.specs.Course.{Course, IsAdvanced, IsQuiet, IsReported, MayFrom, WaitsFor, end_at, left, past_moments, running, start_at};
 ghost use Rattle.qc_dispatch.specs.Promises.{GoesOn, Keeps};
 ghost use Rattle.qc_dispatch.specs.Kept.{ComesBy};
-ghost use Rattle.qc_dispatch.specs.Waits.{AreMarks, AreWaits};
+ghost use Rattle.qc_dispatch.specs.Marks.{AreMarks};
+ghost use Rattle.qc_dispatch.specs.Waits.{AreWaits};
 ghost use Rattle.qc_model.specs.Instance.{Valid};
 
 use crate::grant::{Grant, NotRunning};

@@ -4,7 +4,8 @@ ghost use Rattle.std.specs.Prelude.{◌≡◌, ◌+◌, ◌*◌, ◌<◌, ◌≤
 ghost use Rattle.qc_model.specs.declared.limits.TheConstants.{MOST_TASKS};
 ghost use Rattle.qc_dispatch.specs.declared.stage.Stage.TheVariants.{Waiting};
 ghost use Rattle.qc_dispatch.specs.Course.{end_in};
-ghost use Rattle.qc_dispatch.specs.Waits.{IsNext, mark, open_start};
+ghost use Rattle.qc_dispatch.specs.Marks.{mark};
+ghost use Rattle.qc_dispatch.specs.Waits.{IsNext, open_start};
 
 use crate::next::{Next, sooner};
 use crate::order::cell;

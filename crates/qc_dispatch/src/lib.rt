@@ -4,7 +4,8 @@
 //! Each start comes at the first moment at which the rules allow it, over every list of calls
 //! (`Dispatch::open`, `advance`, `done`). `follow_log` gives what comes of a log, or the fault of
 //! its first faulty line; `waits_for` what an idle crane waits for. Once all tasks have ended the
-//! work was a feasible schedule of the lengths that they took (`work_is_feasible`).
+//! work was a feasible schedule of the lengths that they took (`work_is_feasible`). Which task of a plan
+//! leads which, and by how long, `lead_marks` and `gap` tell.
 #![tactic(auto)]
 
 mod dispatch;
@@ -25,5 +26,6 @@ pub use event::Event;
 pub use fault::{DispatchError, DispatchFault, DispatchKind};
 pub use follow::{Followed, follow_log};
 pub use grant::{Grant, NotRunning};
+pub use order::{cell, gap, lead_marks};
 pub use report::Report;
 pub use stage::Stage;

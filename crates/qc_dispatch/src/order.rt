@@ -4,7 +4,7 @@ ghost use Rattle.std.specs.Prelude.{◌≡◌, ℕ, ◌↔◌, ◌+◌, ◌*◌,
 ghost use Rattle.qc_model.specs.declared.limits.TheConstants.{MOST_DISTANCE, MOST_TASKS};
 ghost use Rattle.qc_model.specs.Rules.{Feasible};
 ghost use Rattle.qc_dispatch.specs.Order.{ArePaired, AreNear, AreTied, Leads, gap};
-ghost use Rattle.qc_dispatch.specs.Waits.{AreMarks};
+ghost use Rattle.qc_dispatch.specs.Marks.{AreMarks};
 
 use qc_dist::distance;
 use qc_model::{Instance, MOST_TASKS, Slot, bays_between, travel_over};
@@ -56,7 +56,7 @@ fn leads(inst: &Instance, slots: &[Slot], i: u16, j: u16) -> bool
 }
 
 /// The ticks that pass at least between the end of a task and the start of one that it leads.
-pub(crate) fn gap(inst: &Instance, slots: &[Slot], i: u16, j: u16) -> Tick
+pub fn gap(inst: &Instance, slots: &[Slot], i: u16, j: u16) -> Tick
     requires plan { Feasible inst.now slots.now }
     requires first { i < length inst.now.tasks }
     requires second { j < length inst.now.tasks }
@@ -72,7 +72,7 @@ pub(crate) fn gap(inst: &Instance, slots: &[Slot], i: u16, j: u16) -> Tick
 }
 
 /// Where a table of pairs of tasks holds a pair.
-pub(crate) fn cell(i: u16, j: u16) -> usize
+pub fn cell(i: u16, j: u16) -> usize
     requires first { i < MOST_TASKS }
     requires second { j < MOST_TASKS }
     ensures { result ≡ MOST_TASKS * i + j }
@@ -92,11 +92,7 @@ fn mark_at(inst: &Instance, slots: &[Slot], at: u16) -> bool
 }
 
 /// The table of which task leads which.
-pub(crate) fn lead_marks(
-    alloc: Global,
-    inst: &Instance,
-    slots: &[Slot],
-) -> Result<Vec<bool>, OutOfMemory>
+pub fn lead_marks(alloc: Global, inst: &Instance, slots: &[Slot]) -> Result<Vec<bool>, OutOfMemory>
     requires { Feasible inst.now slots.now }
     ensures { IfOk result (λ marks. AreMarks inst.now slots.now marks.items) }
 {

@@ -4,7 +4,8 @@ ghost use Rattle.std.specs.Prelude.{◌≡◌, ℕ, ◌*◌, ◌<◌, ◌≤◌,
 ghost use Rattle.qc_model.specs.declared.limits.TheConstants.{MOST_TASKS};
 ghost use Rattle.qc_model.specs.Rules.{Feasible};
 ghost use Rattle.qc_dispatch.specs.Course.{past_moments};
-ghost use Rattle.qc_dispatch.specs.Waits.{AreLetGo, AreMarks, AreWaits, mark, open_below, wait_of};
+ghost use Rattle.qc_dispatch.specs.Marks.{AreMarks, mark};
+ghost use Rattle.qc_dispatch.specs.Waits.{AreLetGo, AreWaits, open_below, wait_of};
 
 use crate::order::{cell, gap};
 use qc_dist::head;

@@ -1,5 +1,5 @@
 use Rattle.std.proofs.Common.{◌≡◌, ℕ, true, false, slice_index_or, sym, ap, ◌∙◌, arith}
-use Rattle.qc_dispatch.specs.Waits.{mark}
+use Rattle.qc_dispatch.specs.Marks.{mark}
 use Rattle.qc_dispatch.proofs.Counts.{tally}
 use Rattle.qc_dispatch.proofs.WaitLemmas.{leaders_more}
 use Rattle.qc_dispatch.proofs.waits.leaders_of.Goals as goal

@@ -2,7 +2,7 @@ use Rattle.std.proofs.Common.{Bool, List, sym, subst, ap, ◌∙◌}
 use Rattle.qc_dispatch.specs.Course.{end_at, end_in}
 use Rattle.qc_dispatch.specs.Fields.{course_of}
 use Rattle.qc_dispatch.specs.Promises.{Keeps}
-use Rattle.qc_dispatch.specs.Waits.{mark}
+use Rattle.qc_dispatch.specs.Marks.{mark}
 use Rattle.qc_dispatch.proofs.CourseLemmas.{goes_ended}
 use Rattle.qc_dispatch.proofs.KeptLemmas.{ended_seen, idle_read, kept_ended, runs_read}
 use Rattle.qc_dispatch.proofs.WaitLemmas.{some_open}

@@ -1,5 +1,5 @@
 use Rattle.std.proofs.Common.{◌≡◌, ◌<◌, ℕ, length, true, false, slice_index_or, sym, ap, ◌∙◌, arith}
-use Rattle.qc_dispatch.specs.Waits.{mark}
+use Rattle.qc_dispatch.specs.Marks.{mark}
 use Rattle.qc_dispatch.proofs.TableLemmas.{go_more, go_over, gone_is}
 use Rattle.qc_dispatch.proofs.waits.Waits.let_go.Goals as goal
 use Rattle.qc_dispatch.proofs.waits.Waits.let_go.Goals.{then-marks-cell, else-marks-cell}

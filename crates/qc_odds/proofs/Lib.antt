@@ -1,0 +1,15 @@
+pub mod DrawLemmas
+pub mod PoolLemmas
+pub mod LengthLemmas
+pub mod OrderLemmas
+pub mod DueLemmas
+pub mod PassLemmas
+pub mod EndLemmas
+pub mod WorkLemmas
+pub mod RiseLemmas
+pub mod PromptLemmas
+pub mod PlanLemmas
+pub mod TallyLemmas
+pub mod KeptLemmas
+pub mod CriticalLemmas
+pub mod MarkLemmas

@@ -1,0 +1,10 @@
+pub mod Draws
+pub mod Pools
+pub mod Kinds
+pub mod Lengths
+pub mod Course
+pub mod Critical
+pub mod Tally
+pub mod Moments
+pub mod Order
+pub mod Kept

@@ -1,0 +1,54 @@
+//! What holds of a plan that is worked with other lengths.
+
+ghost use Rattle.std.specs.Prelude.{◌≡◌, ℕ, ◌<◌, ◌≤◌, ◌↔◌, Bool, IsTrue, List, length, map, slice_index};
+ghost use Rattle.qc_dispatch.specs.Calls.{Call, Reaches, opening};
+ghost use Rattle.qc_dispatch.specs.Course.{Course as Dispatched};
+ghost use Rattle.qc_dispatch.specs.Worked.{IsWorked};
+ghost use Rattle.qc_model.specs.declared.schedule.Slot.{Slot};
+ghost use Rattle.qc_model.specs.declared.task.Task.{Task};
+ghost use Rattle.qc_model.specs.Instance.{InstanceView, Valid, ticks_of};
+ghost use Rattle.qc_model.specs.Rules.{Feasible, start_of};
+ghost use Rattle.qc_odds.specs.Course.{AreStarts, IsLastEnd, with_lengths, with_starts};
+ghost use Rattle.qc_odds.specs.Critical.{AreMarked, is_marked, with_tick_more};
+
+/// Worked with any lengths, a feasible plan gives a feasible schedule of the tasks with these lengths, on the cranes
+/// of the plan.
+fn courses_are_feasible()
+    ensures { (inst : InstanceView) (plan : List Slot) (lengths starts : List ℕ) → Valid inst → Feasible inst plan
+        → length lengths ≡ length inst.tasks → AreStarts inst plan lengths starts
+        → Feasible (with_lengths inst lengths) (with_starts plan starts) }
+{}
+
+/// With longer tasks no task starts sooner; so with the same lengths there is only one list of starts.
+fn longer_tasks_start_no_sooner()
+    ensures { (inst : InstanceView) (plan : List Slot) (lengths starts others later : List ℕ)
+        → AreStarts inst plan lengths starts → AreStarts inst plan others later
+        → ((j : ℕ) → j < length inst.tasks → slice_index lengths j ≤ slice_index others j)
+        → (j : ℕ) → j < length inst.tasks → slice_index starts j ≤ slice_index later j }
+{}
+
+/// Whatever calls a dispatcher gets: once all tasks have ended, each started when it does in the course with the
+/// lengths that they took.
+fn courses_are_the_dispatchers()
+    ensures { (inst : InstanceView) (plan : List Slot) (calls : List Call) (after : Dispatched) (tasks : List Task)
+        (sched : List Slot) → Valid inst → Feasible inst plan → Reaches (opening inst plan) calls after
+        → IsWorked after tasks sched
+        → AreStarts after.inst after.plan (map (λ t. t.ticks) tasks) (map (λ s. s.start) sched) }
+{}
+
+/// With tasks that are no longer than planned none starts later than planned.
+fn shorter_tasks_start_by_the_plan()
+    ensures { (inst : InstanceView) (plan : List Slot) → Valid inst → Feasible inst plan → (lengths starts : List ℕ)
+        → AreStarts inst plan lengths starts
+        → ((j : ℕ) → j < length inst.tasks → slice_index lengths j ≤ ticks_of inst j)
+        → (j : ℕ) → j < length inst.tasks → slice_index starts j ≤ start_of plan j }
+{}
+
+/// The marked tasks are the critical ones: with a tick more of one the last end comes later, and of no other.
+fn marked_tasks_are_critical()
+    ensures { (inst : InstanceView) (plan : List Slot) (lengths starts : List ℕ) (last : ℕ) (marked : List Bool)
+        → length lengths ≡ length inst.tasks → AreStarts inst plan lengths starts → IsLastEnd lengths starts last
+        → AreMarked inst plan lengths starts last marked → (j : ℕ) → j < length inst.tasks
+        → (later : List ℕ) (after : ℕ) → AreStarts inst plan (with_tick_more lengths j) later
+        → IsLastEnd (with_tick_more lengths j) later after → IsTrue (is_marked marked j) ↔ (last < after) }
+{}
