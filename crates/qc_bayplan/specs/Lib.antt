@@ -1,1 +1,7 @@
 pub mod Plan
+pub mod Faults
+pub mod Places
+pub mod Containers
+pub mod Courses
+pub mod Reading
+pub mod Taken

@@ -1,0 +1,30 @@
+-- public: the place that a LOC tells.
+use Rattle.std.specs.Prelude.{ℕ, List, length, reverse, position, codes, Bool, not, ◌||◌, ◌==◌, Result}
+use Rattle.std.specs.Str.{bytes_eq}
+use Rattle.qc_num.specs.Reading.{◌>>=◌, require, with_fault}
+use Rattle.qc_ship.specs.Cells.{CellView, cell_in}
+use Rattle.qc_edifact.specs.Cuts.{Elements, part_of}
+use Rattle.qc_edifact.specs.Texts.{from_place}
+use Rattle.qc_bayplan.specs.declared.fault.BayPlanKind.{BayPlanKind}
+use Rattle.qc_bayplan.specs.declared.fault.BayPlanKind.TheVariants as kind
+
+abbrev pub is_no_blank : ℕ → Bool
+is_no_blank b = not (b == 0x20)
+
+-- a text from its first byte on that is no blank
+abbrev pub past_blanks : List ℕ → List ℕ
+past_blanks text = from_place text (position is_no_blank text)
+
+-- a text without blanks at both ends
+abbrev pub trimmed : List ℕ → List ℕ
+trimmed text = reverse (past_blanks (reverse (past_blanks text)))
+
+-- the agency that numbers places in the way of ISO 9711, or none
+abbrev pub is_iso : List ℕ → Bool
+is_iso agency = (length agency == 0) || bytes_eq agency (codes "5")
+
+-- the cell that a LOC tells, or why it tells none
+abbrev pub cell_at : Elements → Result CellView BayPlanKind
+cell_at loc = do
+  _ ← require (is_iso (trimmed (part_of loc 2 2))) kind.CellKind
+  with_fault kind.Cell (cell_in (trimmed (part_of loc 2 0)))
