@@ -8,16 +8,12 @@ use Rattle.qc_stow.specs.Fields.{is_id}
 use Rattle.qc_edifact.specs.Cuts.{Elements, part_of}
 use Rattle.qc_bayplan.specs.Places.{is_no_blank}
 use Rattle.qc_bayplan.specs.Plan.{most_containers}
+use Rattle.qc_bayplan.specs.Sorts.{is_departure}
 use Rattle.qc_bayplan.specs.declared.container.Found.{Found}
 use Rattle.qc_bayplan.specs.declared.plan.Container.{Container}
 use Rattle.qc_bayplan.specs.declared.plan.Which.{Which}
-use Rattle.qc_bayplan.specs.declared.plan.Which.TheVariants.{Arrival, Departure}
 use Rattle.qc_bayplan.specs.declared.fault.BayPlanKind.{BayPlanKind}
 use Rattle.qc_bayplan.specs.declared.fault.BayPlanKind.TheVariants as kind
-
-abbrev pub is_departure : Which → Bool
-is_departure Arrival = false
-is_departure Departure = true
 
 -- the id that an EQD tells, without any blank
 abbrev pub own_id : Elements → List ℕ
@@ -44,16 +40,18 @@ abbrev pub fits : Option ℕ → CellView → Bool
 fits None cell = true
 fits (Some b) cell = if b == 0x32 then not (is_forty cell) else is_forty cell
 
+-- the container with this id and this size, at a cell
+abbrev pub judged : List ℕ → Bool → Option ℕ → CellView → Result Found BayPlanKind
+judged id unnamed size cell = do
+  _ ← require (is_id id) kind.Id
+  _ ← require (is_size size) kind.Size
+  _ ← require (fits size cell) kind.LengthMismatch
+  Ok (record { container = record { id = id; cell = cell }; unnamed = unnamed })
+
 -- the container of an EQD at a cell
 abbrev pub container_at : Which → Elements → CellView → Result Found BayPlanKind
-container_at which eqd cell = do
-  _ ← require (is_id (id_of which eqd cell)) kind.Id
-  _ ← require (is_size (size_of eqd)) kind.Size
-  _ ← require (fits (size_of eqd) cell) kind.LengthMismatch
-  Ok (record {
-    container = record { id = id_of which eqd cell; cell = cell };
-    unnamed = is_unnamed which eqd;
-  })
+container_at which eqd cell =
+    judged (id_of which eqd cell) (is_unnamed which eqd) (size_of eqd) cell
 
 -- an earlier container has the id, or a cell that overlaps this one
 abbrev pub has_id : List Container → List ℕ → Bool

@@ -5,6 +5,7 @@ use Rattle.std.specs.List.{list_all}
 use Rattle.std.specs.Str.{bytes_eq}
 use Rattle.std.specs.Str.Parse.{digits_value}
 use Rattle.qc_num.specs.Reading.{◌>>=◌, require}
+use Rattle.qc_ship.specs.Cells.{CellView}
 use Rattle.qc_edifact.specs.Cuts.{Elements, part_of}
 use Rattle.qc_bayplan.specs.Places.{cell_at}
 use Rattle.qc_bayplan.specs.declared.course.Course.{Course}
@@ -57,6 +58,10 @@ is_message _ = false
 abbrev pub is_interchange_end : Tag → Bool
 is_interchange_end tag.InterchangeEnd = true
 is_interchange_end _ = false
+
+abbrev pub is_equipment : Tag → Bool
+is_equipment tag.Equipment = true
+is_equipment _ = false
 
 abbrev pub is_inner : Tag → Bool
 is_inner tag.Interchange = false
@@ -153,6 +158,11 @@ with_container course None = Err kind.NoPlace
 with_container course (Some place) = if has_container place.held
     then Ok (record course { bundled = course.bundled + 1 })
     else Ok (record course { place = Some (record { cell = place.cell; held = held.Container }) })
+
+-- what an open place tells of its cell, where no container stands there yet
+abbrev pub free_place : Option Place → Option (Result CellView BayPlanKind)
+free_place None = None
+free_place (Some place) = if has_container place.held then None else Some place.cell
 
 abbrev pub and_other : Held → Held
 and_other held.Nothing = held.Other

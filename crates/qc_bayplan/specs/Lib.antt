@@ -1,4 +1,5 @@
 pub mod Plan
+pub mod Sorts
 pub mod Faults
 pub mod Places
 pub mod Containers

@@ -23,8 +23,12 @@ trimmed text = reverse (past_blanks (reverse (past_blanks text)))
 abbrev pub is_iso : List ℕ → Bool
 is_iso agency = (length agency == 0) || bytes_eq agency (codes "5")
 
--- the cell that a LOC tells, or why it tells none
+-- the cell of a place of this agency, or why it is none
+abbrev pub cell_of : List ℕ → List ℕ → Result CellView BayPlanKind
+cell_of agency place = do
+  _ ← require (is_iso agency) kind.CellKind
+  with_fault kind.Cell (cell_in place)
+
+-- the cell that a LOC tells
 abbrev pub cell_at : Elements → Result CellView BayPlanKind
-cell_at loc = do
-  _ ← require (is_iso (trimmed (part_of loc 2 2))) kind.CellKind
-  with_fault kind.Cell (cell_in (trimmed (part_of loc 2 0)))
+cell_at loc = cell_of (trimmed (part_of loc 2 2)) (trimmed (part_of loc 2 0))

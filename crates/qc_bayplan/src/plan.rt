@@ -2,6 +2,7 @@
 
 ghost use Rattle.std.specs.Prelude.{◌≡◌};
 ghost use Rattle.qc_bayplan.specs.Plan.{AreContainers};
+ghost use Rattle.qc_bayplan.specs.Sorts.{is_departure};
 
 use qc_ship::Cell;
 use qc_stow::Id;
@@ -9,6 +10,23 @@ use std::marker::Model;
 
 /// The most containers of a bay plan.
 pub const MOST_CONTAINERS: usize = 25_000;
+
+/// Which plan of a call at a port a file is.
+#[derive(Clone, Copy, PartialEq, Eq)]
+pub enum Which {
+    /// The plan of the ship as it arrives, in which each container has an id.
+    Arrival,
+    /// The plan for its departure, in which a container may have no id yet.
+    Departure,
+}
+
+impl Which {
+    pub(crate) fn is_departure(self) -> bool
+        ensures { result ≡ is_departure self }
+    {
+        self == Which::Departure
+    }
+}
 
 /// A container and the cell in which it stands.
 #[derive(Drop)]
@@ -43,6 +61,22 @@ impl Model for BayPlan {
 }
 
 impl BayPlan {
+    /// The plan of these containers.
+    pub(crate) fn of(containers: Vec<Container>, unnamed: u32, bundled: u32, other: u32) -> BayPlan
+        requires { AreContainers containers.items }
+        ensures containers { result.containers ≡ containers.items }
+        ensures unnamed { result.unnamed ≡ unnamed }
+        ensures bundled { result.bundled ≡ bundled }
+        ensures other { result.other ≡ other }
+    {
+        BayPlan {
+            containers,
+            unnamed,
+            bundled,
+            other,
+        }
+    }
+
     /// The containers in the order of the file.
     pub fn containers(&self) -> &[Container]
         ensures containers { result.now ≡ self.now.containers }

@@ -68,12 +68,3 @@ piece_behind signs sign text rest first zero more e = absurd (omega arith)
 piece_behind signs sign text rest first (suc n) more e =
     let before : suc n - 1 ≡ n = omega arith in
     rw before (ap (λ (xs : List (List ℕ)). get_or xs (suc n) []) e)
-
-pub piece_first : (signs : Signs) (sign : ℕ) (text first : List ℕ) (more : List (List ℕ)) (number : ℕ) → number ≤ 0
-    → cut signs sign false text ≡ first ∷ more → piece_of signs sign text number ≡ first
-piece_first signs sign text first more zero none e = ap (λ (xs : List (List ℕ)). get_or xs 0 []) e
-piece_first signs sign text first more (suc n) none e = absurd (omega arith)
-
-pub piece_none : (signs : Signs) (sign : ℕ) (text : List ℕ) (number : ℕ) → 0 < number → cut signs sign false text ≡ text ∷ [] → piece_of signs sign text number ≡ []
-piece_none signs sign text zero more e = absurd (omega arith)
-piece_none signs sign text (suc n) more e = ap (λ (xs : List (List ℕ)). get_or xs (suc n) []) e

@@ -1,12 +1,11 @@
 -- The segments of a text, one by one.
 use Rattle.std.proofs.Common.{◌≡◌, ◌∙◌, ◌+◌, ◌<◌, ◌≤◌, ◌∷◌, ◌&&◌, not, ℕ, List, [], length, drop, Bool, true, false, Result, Ok, Err, Option, Some, take, refl, sym, ap, subst, arith, nat_le}
 use Rattle.std.specs.List.{onto_first}
-use Rattle.std.proofs.lemmas.Bool.{le-leb, lt-leb}
+use Rattle.std.proofs.lemmas.Bool.{le-leb}
 use Rattle.qc_edifact.specs.Cuts.{ahead_of, cut, elements_of, ends_piece}
 use Rattle.qc_edifact.specs.Segments.{Entry, by_signs, entries, left_over, most_bytes, segments_of, segments_in, told_in, whole}
 use Rattle.qc_edifact.specs.Signs.{is_release, signs_told}
 use Rattle.qc_edifact.specs.Texts.{skip_blanks}
-use Rattle.qc_edifact.specs.declared.segments.SegmentFault.TheVariants.{TooLong}
 use Rattle.qc_edifact.specs.declared.signs.Signs.{Signs}
 
 -- a text has a piece, and no more than one behind each byte
@@ -33,7 +32,7 @@ entries-more : (signs : Signs) (piece : List ℕ) (pieces : List (List ℕ)) →
 entries-more signs piece [] some = absurd (omega (arith, some))
 entries-more signs piece (p ∷ ps) some = refl
 
--- what comes first of a text of which an end sign cuts off a piece: a segment, or a fault
+-- what comes first of a text of which an end sign cuts off a piece: a segment
 module _ (signs : Signs) (text piece rest bytes : List ℕ) (to_come : List Entry) (shown : segments_of signs text ≡ to_come)
     (cuts : cut signs signs.end false text ≡ piece ∷ cut signs signs.end false rest) (is : bytes ≡ skip_blanks piece) where
   first-of : to_come ≡ whole signs bytes (segments_of signs rest)
@@ -43,14 +42,6 @@ module _ (signs : Signs) (text piece rest bytes : List ℕ) (to_come : List Entr
 
   pub segment-comes : length bytes ≤ most_bytes → to_come ≡ Ok (elements_of signs bytes) ∷ segments_of signs rest
   segment-comes short = let fits = le-leb (length bytes) most_bytes short in first-of ∙ rw fits refl
-
-  pub fault-comes : most_bytes < length bytes → to_come ≡ Err TooLong ∷ []
-  fault-comes long = let too_long = lt-leb (length bytes) most_bytes long in first-of ∙ rw too_long refl
-
--- and of one of which none does
-pub last-comes : (signs : Signs) (text last : List ℕ) (to_come : List Entry) → segments_of signs text ≡ to_come
-    → cut signs signs.end false text ≡ text ∷ [] → last ≡ skip_blanks text → to_come ≡ left_over last
-last-comes signs text last to_come shown none is = sym shown ∙ ap (entries signs) none ∙ ap left_over (sym is)
 
 -- signs that can serve
 told-by : (text : List ℕ) (found : Option Signs) → 6 ≤ length text → found ≡ signs_told (take 6 text) → told_in text ≡ by_signs (drop 6 text) found
