@@ -9,16 +9,16 @@ use Rattle.qc_edifact.specs.Texts.{skip_blanks}
 use Rattle.qc_edifact.specs.declared.signs.Signs.{Signs}
 
 -- a text has a piece, and no more than one behind each byte
-record HasPieces (pieces : List (List ℕ)) (most : ℕ) : Type 0 where
-  some : 0 < length pieces
-  few : length pieces ≤ most
+pub record HasPieces (pieces : List (List ℕ)) (most : ℕ) : Type 0 where
+  pub some : 0 < length pieces
+  pub few : length pieces ≤ most
 
 ahead-pieces : (ends : Bool) (b : ℕ) (pieces : List (List ℕ)) (most : ℕ) → HasPieces pieces most → HasPieces (ahead_of ends b pieces) (most + 1)
 ahead-pieces true b pieces most has = record { some = omega arith; few = omega (arith, has.few) }
 ahead-pieces false b [] most has = absurd (omega (arith, has.some))
 ahead-pieces false b (p ∷ ps) most has = record { some = omega arith; few = omega (arith, has.few) }
 
-has_pieces : (signs : Signs) (sign : ℕ) (taken : Bool) (text : List ℕ) → HasPieces (cut signs sign taken text) (length text + 1)
+pub has_pieces : (signs : Signs) (sign : ℕ) (taken : Bool) (text : List ℕ) → HasPieces (cut signs sign taken text) (length text + 1)
 has_pieces signs sign taken [] = record { some = omega arith; few = omega arith }
 has_pieces signs sign taken (b ∷ bs) =
     let more : length bs + 1 + 1 ≡ length (b ∷ bs) + 1 = omega arith in
