@@ -1,5 +1,5 @@
 -- public: the container that an EQD tells at a cell.
-use Rattle.std.specs.Prelude.{ℕ, List, ◌++◌, length, filter, find, codes, Bool, true, false, not, ◌&&◌, ◌||◌, ◌==◌, nat_le, nat_lt, if◌then◌else◌, Option, None, Some, Result, Ok}
+use Rattle.std.specs.Prelude.{ℕ, List, ◌++◌, length, filter, find, codes, Bool, true, false, not, ◌&&◌, ◌||◌, ◌==◌, nat_le, nat_lt, if◌then◌else◌, Option, None, Some, Result, Ok, ⊤}
 use Rattle.std.specs.List.{list_any}
 use Rattle.std.specs.Str.{bytes_eq}
 use Rattle.qc_num.specs.Reading.{◌>>=◌, require}
@@ -60,12 +60,11 @@ has_id earlier id = list_any (λ other. bytes_eq id other.id) earlier
 abbrev pub is_taken : List Container → CellView → Bool
 is_taken earlier cell = list_any (λ other. overlap cell other.cell) earlier
 
--- a container whose id and cell the earlier ones leave
-abbrev pub apart_from : List Container → Found → Result Found BayPlanKind
-apart_from earlier found = do
-  _ ← require (not (has_id earlier found.container.id)) kind.IdTwice
-  _ ← require (not (is_taken earlier found.container.cell)) kind.CellTaken
-  Ok found
+-- the earlier ones leave the id and the cell of a container
+abbrev pub left_free : List Container → Container → Result ⊤ BayPlanKind
+left_free earlier container = do
+  _ ← require (not (has_id earlier container.id)) kind.IdTwice
+  require (not (is_taken earlier container.cell)) kind.CellTaken
 
 -- the container of an EQD, after the earlier ones, where its place tells this cell
 abbrev pub next_container : Which → List Container → Result CellView BayPlanKind → Elements
@@ -74,4 +73,5 @@ next_container which earlier place eqd = do
   _ ← require (nat_lt (length earlier) most_containers) kind.TooMany
   cell ← place
   found ← container_at which eqd cell
-  apart_from earlier found
+  _ ← left_free earlier found.container
+  Ok found

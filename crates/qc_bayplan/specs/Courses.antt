@@ -40,11 +40,14 @@ tag_named text =
     else (if bytes_eq text (codes "UNZ") then tag.InterchangeEnd
     else (if is_barred text then tag.Barred else tag.Other)))))))
 
--- the tag of a segment
+-- what a text tells that must be a tag, and the tag of a segment
+abbrev pub tag_of : List ℕ → Result Tag BayPlanKind
+tag_of text = do
+  _ ← require (is_tag text) kind.Tag
+  Ok (tag_named text)
+
 abbrev pub tag_in : Elements → Result Tag BayPlanKind
-tag_in segment = do
-  _ ← require (is_tag (part_of segment 0 0)) kind.Tag
-  Ok (tag_named (part_of segment 0 0))
+tag_in segment = tag_of (part_of segment 0 0)
 
 -- an interchange begins, a message begins, an interchange ends, or what may stand in a message
 abbrev pub is_interchange : Tag → Bool
@@ -72,11 +75,11 @@ is_inner _ = true
 
 -- a tag may come at this stage
 abbrev pub may_come : Stage → Tag → Bool
-may_come stage.Begun tag = is_interchange tag || is_message tag
-may_come stage.Opened tag = is_message tag
-may_come stage.Inside tag = is_inner tag
-may_come stage.Closed tag = is_interchange_end tag
-may_come stage.Over tag = false
+may_come stage.Begun t = is_interchange t || is_message t
+may_come stage.Opened t = is_message t
+may_come stage.Inside t = is_inner t
+may_come stage.Closed t = is_interchange_end t
+may_come stage.Over t = false
 
 -- nothing may come any more
 abbrev pub is_over : Stage → Bool

@@ -1,10 +1,9 @@
 -- public: the place that a LOC tells.
-use Rattle.std.specs.Prelude.{ℕ, List, length, reverse, position, codes, Bool, not, ◌||◌, ◌==◌, Result}
+use Rattle.std.specs.Prelude.{ℕ, List, [], ◌∷◌, length, reverse, codes, Bool, not, ◌||◌, ◌==◌, if◌then◌else◌, Result}
 use Rattle.std.specs.Str.{bytes_eq}
 use Rattle.qc_num.specs.Reading.{◌>>=◌, require, with_fault}
 use Rattle.qc_ship.specs.Cells.{CellView, cell_in}
 use Rattle.qc_edifact.specs.Cuts.{Elements, part_of}
-use Rattle.qc_edifact.specs.Texts.{from_place}
 use Rattle.qc_bayplan.specs.declared.fault.BayPlanKind.{BayPlanKind}
 use Rattle.qc_bayplan.specs.declared.fault.BayPlanKind.TheVariants as kind
 
@@ -13,7 +12,8 @@ is_no_blank b = not (b == 0x20)
 
 -- a text from its first byte on that is no blank
 abbrev pub past_blanks : List ℕ → List ℕ
-past_blanks text = from_place text (position is_no_blank text)
+past_blanks [] = []
+past_blanks (b ∷ bs) = if b == 0x20 then past_blanks bs else b ∷ bs
 
 -- a text without blanks at both ends
 abbrev pub trimmed : List ℕ → List ℕ

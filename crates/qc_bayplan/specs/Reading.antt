@@ -14,6 +14,7 @@ use Rattle.qc_bayplan.specs.Courses.{beginning, course_behind, free_place, is_co
 use Rattle.qc_bayplan.specs.Plan.{PlanView}
 use Rattle.qc_bayplan.specs.declared.container.Found.{Found}
 use Rattle.qc_bayplan.specs.declared.course.Course.{Course}
+use Rattle.qc_bayplan.specs.declared.course.Place.{Place}
 use Rattle.qc_bayplan.specs.declared.fault.BayPlanFault.{BayPlanFault}
 use Rattle.qc_bayplan.specs.declared.fault.BayPlanKind.{BayPlanKind}
 use Rattle.qc_bayplan.specs.declared.fault.BayPlanKind.TheVariants as kind
@@ -23,9 +24,9 @@ use Rattle.qc_bayplan.specs.declared.stage.Tag.{Tag}
 use Rattle.qc_bayplan.specs.declared.step.Step.{Step}
 
 -- what the open place of an EQD of a container tells of its cell, where none stands there yet
-abbrev pub container_place : Tag → Elements → Course → Option (Result CellView BayPlanKind)
-container_place tag segment course =
-    if is_equipment tag && is_container segment then free_place course.place else None
+abbrev pub container_place : Tag → Elements → Option Place → Option (Result CellView BayPlanKind)
+container_place tag segment place =
+    if is_equipment tag && is_container segment then free_place place else None
 
 -- the container that a segment tells after the earlier ones, if its place wants one
 abbrev pub found_in : Which → List Container → Elements → Option (Result CellView BayPlanKind)
@@ -52,7 +53,7 @@ step_to course (Some found) = record {
 abbrev pub step_by : Which → ℕ → Course → List Container → Elements → Tag
     → Result Step BayPlanKind
 step_by which number course earlier segment tag = do
-  found ← found_in which earlier segment (container_place tag segment course)
+  found ← found_in which earlier segment (container_place tag segment course.place)
   behind ← course_behind number tag segment course
   Ok (step_to behind found)
 

@@ -32,8 +32,8 @@ has_taken_id ids id = list_any (bytes_eq id) ids
 
 -- the containers so far are apart, and this is what they took
 pub record IsKept (containers : List Container) (taken : TakenView) : Type 0 where
-  pub containers : AreContainers containers
-  pub taken : taken ≡ taken_by containers
+  pub apart : AreContainers containers
+  pub same : taken ≡ taken_by containers
 
 -- ahead of the segment of this number each count is below it, and the first of the message not
 -- above it

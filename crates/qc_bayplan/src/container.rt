@@ -1,11 +1,11 @@
 //! The container that an EQD tells.
 
-ghost use Rattle.std.specs.Prelude.{◌≡◌, ◌++◌, ◌<◌, ◌≤◌, ◌∷◌, [], length, codes, IfOk};
+ghost use Rattle.std.specs.Prelude.{◌≡◌, ◌++◌, ◌<◌, ◌≤◌, ◌∷◌, [], length, codes, IfOk, OnOk};
 ghost use Rattle.qc_num.specs.Reading.{IsReading};
 ghost use Rattle.qc_ship.specs.Cells.{cell_text};
-ghost use Rattle.qc_bayplan.specs.Containers.{container_at, fits, id_of, is_size, is_unnamed, judged, next_container, own_id, size_of};
+ghost use Rattle.qc_bayplan.specs.Containers.{container_at, fits, id_of, is_size, is_unnamed, judged, left_free, next_container, own_id, size_of};
 ghost use Rattle.qc_bayplan.specs.Plan.{IsContainer};
-ghost use Rattle.qc_bayplan.specs.Taken.{IsKept};
+ghost use Rattle.qc_bayplan.specs.Taken.{IsKept, taken_by};
 
 use crate::fault::{BayPlanKind, KindError};
 use crate::plan::{Container, MOST_CONTAINERS, Which};
@@ -77,12 +77,7 @@ fn fits(size: Option<u8>, cell: &Cell) -> bool
 }
 
 /// The container with this id and this size, at a cell.
-fn judged(
-    id: &[u8],
-    unnamed: bool,
-    size: Option<u8>,
-    cell: Cell,
-) -> Result<Found, BayPlanKind>
+fn judged(id: &[u8], unnamed: bool, size: Option<u8>, cell: Cell) -> Result<Found, BayPlanKind>
     ensures found { result ≡ judged id.now unnamed size cell }
     ensures valid { IfOk result (λ found. IsContainer found.container) }
 {
@@ -119,6 +114,27 @@ fn container_at(
     Ok(judged(id.as_slice(), unnamed, size, cell)?)
 }
 
+/// Takes the id and the cell of a container, where the earlier ones leave them.
+fn claim(
+    alloc: Global,
+    earlier: &[Container],
+    container: &Container,
+    taken: &mut Taken,
+) -> Result<(), KindError>
+    requires { taken.old ≡ taken_by earlier.now }
+    ensures free { IsReading (λ _. tt) (left_free earlier.now container.now) result }
+    ensures taken { OnOk result (taken.new ≡ taken_by (earlier.now ++ container.now ∷ [])) }
+{
+    let id = Vec::from_slice(alloc, container.id.as_bytes())?;
+    if !taken.take_id(id)? {
+        return Err(KindError::Fault(BayPlanKind::IdTwice));
+    }
+    if !taken.take_cell(container.cell)? {
+        return Err(KindError::Fault(BayPlanKind::CellTaken));
+    }
+    Ok(())
+}
+
 /// The container of an EQD after the earlier ones, whose ids and slots are taken, where its place
 /// tells this cell.
 pub(crate) fn next_container(
@@ -138,14 +154,8 @@ pub(crate) fn next_container(
     if earlier.len() == MOST_CONTAINERS {
         return Err(KindError::Fault(BayPlanKind::TooMany));
     }
-    let found = container_at(alloc, which, eqd, place?)?;
-    let mut id = Vec::new(alloc);
-    id.extend_from_slice(found.container.id.as_bytes())?;
-    if !taken.take_id(id)? {
-        return Err(KindError::Fault(BayPlanKind::IdTwice));
-    }
-    if !taken.take_cell(found.container.cell)? {
-        return Err(KindError::Fault(BayPlanKind::CellTaken));
-    }
+    let cell = place?;
+    let found = container_at(alloc, which, eqd, cell)?;
+    claim(alloc, earlier, &found.container, taken)?;
     Ok(found)
 }

@@ -3,8 +3,8 @@
 ghost use Rattle.std.specs.Prelude.{◌≡◌, ◌+◌, ◌-◌, ◌<◌, ◌≤◌, Ok, IfOk, ◌^◌};
 ghost use Rattle.qc_num.specs.Reading.{IsReading};
 ghost use Rattle.qc_edifact.specs.Cuts.{part_of};
-ghost use Rattle.qc_bayplan.specs.Courses.{and_other, begun, beginning, closed, course_behind, ended, equipped, finished, free_place, has_container, is_container, is_other, is_partial, located, one_if, opened, others_at, told, with_container, with_other};
-ghost use Rattle.qc_bayplan.specs.Taken.{HasCounts, HasRisen};
+ghost use Rattle.qc_bayplan.specs.Courses.{and_other, begun, beginning, closed, course_behind, ended, equipped, finished, free_place, has_container, is_container, is_number, is_other, is_partial, located, one_if, opened, others_at, told, with_container, with_other};
+ghost use Rattle.qc_bayplan.specs.Taken.{HasCounts};
 
 use crate::fault::{BayPlanKind, KindError};
 use crate::place::cell_at;
@@ -87,14 +87,24 @@ fn others_at(place: Option<Place>) -> u32
     ensures small { result ≤ 1 }
 {
     match place {
+        Some(place) => { if place.held.is_other() { 1 } else { 0 } }
+        None => 0,
+    }
+}
+
+/// What the open place tells of its cell, where no container stands there yet.
+pub(crate) fn free_place(place: Option<Place>) -> Option<Result<Cell, BayPlanKind>>
+    ensures { result ≡ free_place place }
+{
+    match place {
         Some(place) => {
-            if place.held.is_other() {
-                1
+            if place.held.has_container() {
+                None
             } else {
-                0
+                Some(place.cell)
             }
         }
-        None => 0,
+        None => None,
     }
 }
 
@@ -165,22 +175,6 @@ impl Course {
         }
     }
 
-    /// What the open place tells of its cell, where no container stands there yet.
-    pub(crate) fn free_place(self) -> Option<Result<Cell, BayPlanKind>>
-        ensures { result ≡ free_place self.place }
-    {
-        match self.place {
-            Some(place) => {
-                if place.held.has_container() {
-                    None
-                } else {
-                    Some(place.cell)
-                }
-            }
-            None => None,
-        }
-    }
-
     /// Behind a UNH, the segment of this number.
     fn begun(self, number: u32, unh: &Segment<'_>) -> Result<Course, BayPlanKind>
         ensures { result ≡ begun number unh.now self }
@@ -228,7 +222,8 @@ impl Course {
         requires { self.bundled < u32.MAX }
         ensures { result ≡ with_container self self.place }
     {
-        let Some(place) = self.place else {
+        let place = self.place;
+        let Some(place) = place else {
             return Err(BayPlanKind::NoPlace);
         };
         if place.held.has_container() {
@@ -304,9 +299,7 @@ impl Course {
     ) -> Result<Course, KindError>
         requires number { number < u32.MAX }
         requires counts { HasCounts number self }
-        ensures course { IsReading (λ course. course)
-            (course_behind number tag segment.now self) result }
-        ensures counts { IfOk result (HasRisen number) }
+        ensures { IsReading (λ course. course) (course_behind number tag segment.now self) result }
     {
         match tag {
             Tag::Interchange => Ok(Course {

@@ -28,10 +28,7 @@ fn error_at(number: u32, error: KindError) -> BayPlanError
 }
 
 /// Keeps a container behind the others, if there is one.
-fn keep(
-    containers: &mut Vec<Container>,
-    container: Option<Container>,
-) -> Result<(), OutOfMemory>
+fn keep(containers: &mut Vec<Container>, container: Option<Container>) -> Result<(), OutOfMemory>
     ensures { OnOk result (containers.new.items
         ≡ containers.old.items ++ option_to_list container) }
 {
@@ -49,12 +46,7 @@ fn plan_of(number: u32, course: Course, containers: Vec<Container>) -> Result<Ba
     if !course.stage.is_over() {
         return Err(error_at(number, KindError::Fault(BayPlanKind::Cut)));
     }
-    Ok(BayPlan::of(
-        containers,
-        course.unnamed,
-        course.bundled,
-        course.other,
-    ))
+    Ok(BayPlan::of(containers, course.unnamed, course.bundled, course.other))
 }
 
 /// The plan of the segments of a file.
@@ -64,7 +56,7 @@ fn read_segments(
     segments: Segments<'_>,
 ) -> Result<BayPlan, BayPlanError>
     requires { length segments + 1 < u32.MAX }
-    ensures { IsReading (λ plan. plan) (plan_from which 1 beginning [] segments) result }
+    ensures { IsReading (λ plan. plan) (plan_from which 1 beginning [] segments.entry) result }
 {
     let mut course = Course::beginning();
     let mut containers = Vec::new(alloc);

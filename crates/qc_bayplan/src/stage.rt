@@ -1,11 +1,15 @@
 //! Tags of segments, and where in a file they may come.
 
 ghost use Rattle.std.specs.Prelude.{◌≡◌};
-ghost use Rattle.qc_edifact.specs.Cuts.{part_of};
-ghost use Rattle.qc_bayplan.specs.Courses.{is_barred, is_equipment, is_inner, is_interchange, is_interchange_end, is_message, is_over, is_tag, may_come, tag_in, tag_named};
+ghost use Rattle.std.specs.Char.{is_ascii_uppercase};
+ghost use Rattle.std.specs.List.{list_all};
+ghost use Rattle.qc_num.specs.Reading.{IsReading};
+ghost use Rattle.qc_bayplan.specs.Courses.{is_barred, is_equipment, is_inner, is_interchange, is_interchange_end, is_message, is_over, is_tag, may_come, tag_in, tag_named, tag_of};
 
-use crate::fault::BayPlanKind;
+use crate::fault::{BayPlanKind, KindError};
+use crate::text::text_of;
 use qc_edifact::Segment;
+use std::alloc::Global;
 
 /// What the tag of a segment tells.
 #[derive(Clone, Copy)]
@@ -30,54 +34,69 @@ pub(crate) enum Tag {
     Other,
 }
 
-/// Whether the tag is three letters.
-fn is_tag(segment: &Segment<'_>) -> bool
-    ensures { result ≡ is_tag (part_of segment.now 0 0) }
+/// Whether each byte is a capital letter.
+fn are_letters(text: &[u8]) -> bool
+    ensures { result ≡ list_all is_ascii_uppercase text.now }
 {
-    segment.part(0, 0).count() == 3 && segment.part(0, 0).all(|b| b.is_ascii_uppercase())
+    text.iter().all(|b| b.is_ascii_uppercase())
+}
+
+/// Whether the text is three capital letters.
+fn is_tag(text: &[u8]) -> bool
+    ensures { result ≡ is_tag text.now }
+{
+    text.len() == 3 && are_letters(text)
 }
 
 /// Whether the segment may come nowhere.
-fn is_barred(segment: &Segment<'_>) -> bool
-    ensures { result ≡ is_barred (part_of segment.now 0 0) }
+fn is_barred(text: &[u8]) -> bool
+    ensures { result ≡ is_barred text.now }
 {
-    segment.has(0, 0, b"UNA") || segment.has(0, 0, b"UNG") || segment.has(0, 0, b"UNE")
+    text == b"UNA".as_slice() || text == b"UNG".as_slice() || text == b"UNE".as_slice()
 }
 
 impl Tag {
-    /// What the tag tells that a segment has.
-    fn named(segment: &Segment<'_>) -> Tag
-        ensures { result ≡ tag_named (part_of segment.now 0 0) }
+    /// What a tag tells.
+    fn named(text: &[u8]) -> Tag
+        ensures { result ≡ tag_named text.now }
     {
-        if segment.has(0, 0, b"UNB") {
+        if text == b"UNB".as_slice() {
             Tag::Interchange
-        } else if segment.has(0, 0, b"UNH") {
+        } else if text == b"UNH".as_slice() {
             Tag::Message
-        } else if segment.has(0, 0, b"BGM") {
+        } else if text == b"BGM".as_slice() {
             Tag::Kind
-        } else if segment.has(0, 0, b"LOC") {
+        } else if text == b"LOC".as_slice() {
             Tag::Location
-        } else if segment.has(0, 0, b"EQD") {
+        } else if text == b"EQD".as_slice() {
             Tag::Equipment
-        } else if segment.has(0, 0, b"UNT") {
+        } else if text == b"UNT".as_slice() {
             Tag::MessageEnd
-        } else if segment.has(0, 0, b"UNZ") {
+        } else if text == b"UNZ".as_slice() {
             Tag::InterchangeEnd
-        } else if is_barred(segment) {
+        } else if is_barred(text) {
             Tag::Barred
         } else {
             Tag::Other
         }
     }
 
-    /// The tag of a segment, if it has one.
-    pub(crate) fn of(segment: &Segment<'_>) -> Result<Tag, BayPlanKind>
-        ensures { result ≡ tag_in segment.now }
+    /// What a tag tells, if the text is one.
+    fn read(text: &[u8]) -> Result<Tag, BayPlanKind>
+        ensures { result ≡ tag_of text.now }
     {
-        if !is_tag(segment) {
+        if !is_tag(text) {
             return Err(BayPlanKind::Tag);
         }
-        Ok(Tag::named(segment))
+        Ok(Tag::named(text))
+    }
+
+    /// What the tag of a segment tells.
+    pub(crate) fn of(alloc: Global, segment: &Segment<'_>) -> Result<Tag, KindError>
+        ensures { IsReading (λ tag. tag) (tag_in segment.now) result }
+    {
+        let text = text_of(alloc, segment, 0, 0)?;
+        Ok(Tag::read(text.as_slice())?)
     }
 
     fn is_interchange(self) -> bool

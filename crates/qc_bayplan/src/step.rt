@@ -7,7 +7,7 @@ ghost use Rattle.qc_bayplan.specs.Reading.{container_place, found_in, found_cont
 ghost use Rattle.qc_bayplan.specs.Taken.{HasCounts, HasRisen, IsKept};
 
 use crate::container::{Found, next_container};
-use crate::course::{Course, is_container};
+use crate::course::{Course, Place, free_place, is_container};
 use crate::fault::{BayPlanKind, KindError};
 use crate::plan::{Container, MOST_CONTAINERS, Which};
 use crate::stage::Tag;
@@ -23,16 +23,16 @@ pub(crate) struct Step {
     pub(crate) container: Option<Container>,
 }
 
-/// The cell of the place whose container the segment tells.
+/// What the open place tells of its cell, where the segment tells its container.
 fn container_place(
     tag: Tag,
     segment: &Segment<'_>,
-    course: Course,
+    place: Option<Place>,
 ) -> Option<Result<Cell, BayPlanKind>>
-    ensures { result ≡ container_place tag segment.now course }
+    ensures { result ≡ container_place tag segment.now place }
 {
     if tag.is_equipment() && is_container(segment) {
-        course.free_place()
+        free_place(place)
     } else {
         None
     }
@@ -40,7 +40,7 @@ fn container_place(
 
 /// The segment that comes next.
 fn segment_in(entry: Result<Segment<'_>, SegmentFault>) -> Result<Segment<'_>, BayPlanKind>
-    ensures { result ≡ segment_in entry }
+    ensures { result ≡ segment_in entry.entry }
 {
     match entry {
         Ok(segment) => Ok(segment),
@@ -65,9 +65,7 @@ fn found_in(
         (λ found. IsKept (earlier.now ++ found_containers found) taken.new) }
 {
     match place {
-        Some(place) => Ok(Some(next_container(
-            alloc, which, earlier, place, segment, taken,
-        )?)),
+        Some(place) => Ok(Some(next_container(alloc, which, earlier, place, segment, taken)?)),
         None => Ok(None),
     }
 }
@@ -114,7 +112,8 @@ fn step_by(
     ensures kept { IfOk result
         (λ step. IsKept (earlier.now ++ option_to_list step.container) taken.new) }
 {
-    let place = container_place(tag, segment, course);
+    let open = course.place;
+    let place = container_place(tag, segment, open);
     let found = found_in(alloc, which, earlier, segment, place, taken)?;
     let behind = course.behind(alloc, number, tag, segment)?;
     Ok(step_to(number, behind, found))
@@ -139,7 +138,7 @@ fn step_of(
     ensures kept { IfOk result
         (λ step. IsKept (earlier.now ++ option_to_list step.container) taken.new) }
 {
-    let tag = Tag::of(segment)?;
+    let tag = Tag::of(alloc, segment)?;
     if !course.stage.admits(tag) {
         return Err(KindError::Fault(BayPlanKind::Place));
     }
@@ -160,7 +159,7 @@ pub(crate) fn next_step(
     requires counts { HasCounts number course }
     requires kept { IsKept earlier.now taken.old }
     ensures step { IsReading (λ step. step)
-        (next_step which number course earlier.now entry) result }
+        (next_step which number course earlier.now entry.entry) result }
     ensures counts { IfOk result (λ step. HasCounts (number + 1) step.course) }
     ensures kept { IfOk result
         (λ step. IsKept (earlier.now ++ option_to_list step.container) taken.new) }

@@ -1,6 +1,6 @@
 //! Texts in segments.
 
-ghost use Rattle.std.specs.Prelude.{◌≡◌, ◌≤◌, length, find, filter, position, IfOk};
+ghost use Rattle.std.specs.Prelude.{◌≡◌, find, filter, reverse, IfOk};
 ghost use Rattle.qc_edifact.specs.Cuts.{part_of};
 ghost use Rattle.qc_bayplan.specs.Places.{is_no_blank, past_blanks, trimmed};
 ghost use Rattle.qc_bayplan.specs.Courses.{is_number};
@@ -35,28 +35,25 @@ pub(crate) fn first_visible(text: &[u8]) -> Option<u8>
     text.iter().copied().find(|b| *b != b' ')
 }
 
-/// The place of the first byte that is no blank.
-fn begins(text: &[u8]) -> Option<usize>
-    ensures { result ≡ position is_no_blank text.now }
-{
-    text.iter().position(|b| *b != b' ')
-}
-
 /// The text from its first byte on that is no blank.
 fn past_blanks(text: &[u8]) -> &[u8]
     ensures { result.now ≡ past_blanks text.now }
 {
-    match begins(text) {
-        Some(start) => &text[start..],
-        None => &[],
+    let mut rest = text;
+    while let Some((first, others)) = rest.split_first() {
+        if *first != b' ' {
+            return rest;
+        }
+        rest = others;
     }
+    rest
 }
 
-/// The text without blanks at both ends.
-pub(crate) fn trimmed(text: &[u8]) -> &[u8]
-    ensures { result.now ≡ trimmed text.now }
+/// The text up to its last byte that is no blank.
+fn up_to_blanks(text: &[u8]) -> &[u8]
+    ensures { result.now ≡ reverse (past_blanks (reverse text.now)) }
 {
-    let mut rest = past_blanks(text);
+    let mut rest = text;
     while let Some((last, others)) = rest.split_last() {
         if *last != b' ' {
             return rest;
@@ -64,6 +61,13 @@ pub(crate) fn trimmed(text: &[u8]) -> &[u8]
         rest = others;
     }
     rest
+}
+
+/// The text without blanks at both ends.
+pub(crate) fn trimmed(text: &[u8]) -> &[u8]
+    ensures { result.now ≡ trimmed text.now }
+{
+    up_to_blanks(past_blanks(text))
 }
 
 /// Whether the text is 1 to 9 digits of this number.

@@ -1,9 +1,9 @@
 -- A text that is cut, piece by piece.
-use Rattle.std.proofs.Common.{◌≡◌, ◌∙◌, ◌+◌, ◌-◌, ◌<◌, ◌≤◌, ◌++◌, ◌∷◌, ◌==◌, ◌&&◌, ℕ, List, [], length, take, drop, get_or, not, Bool, true, false, refl, sym, ap, zero, suc, arith, rules, append-nil}
+use Rattle.std.proofs.Common.{◌≡◌, ◌∙◌, ◌+◌, ◌-◌, ◌<◌, ◌≤◌, ◌++◌, ◌∷◌, ◌&&◌, ℕ, List, [], length, take, drop, get_or, not, Bool, true, false, refl, sym, ap, zero, suc, arith, rules, append-nil}
 use Rattle.std.specs.List.{onto_first}
 use Rattle.std.proofs.lemmas.List.{at_drop_all, at_drop_more, take_all, take_more}
 use Rattle.qc_edifact.specs.Signs.{is_release}
-use Rattle.qc_edifact.specs.Cuts.{ahead_of, cut, ends_piece, piece_of}
+use Rattle.qc_edifact.specs.Cuts.{cut, ends_piece, piece_of}
 use Rattle.qc_edifact.specs.declared.signs.Signs.{Signs}
 
 -- bytes put ahead of the first of these pieces

@@ -1,9 +1,8 @@
 -- The segments of a text, one by one.
-use Rattle.std.proofs.Common.{◌≡◌, ◌∙◌, ◌+◌, ◌<◌, ◌≤◌, ◌∷◌, ◌&&◌, not, ℕ, List, [], length, drop, Bool, true, false, Result, Ok, Err, Option, Some, take, refl, sym, ap, subst, arith, nat_le}
-use Rattle.std.specs.List.{onto_first}
+use Rattle.std.proofs.Common.{◌≡◌, ◌∙◌, ◌+◌, ◌<◌, ◌≤◌, ◌∷◌, ◌&&◌, not, ℕ, List, [], length, drop, Bool, true, false, Ok, Option, Some, take, refl, sym, ap, subst, arith}
 use Rattle.std.proofs.lemmas.Bool.{le-leb}
 use Rattle.qc_edifact.specs.Cuts.{ahead_of, cut, elements_of, ends_piece}
-use Rattle.qc_edifact.specs.Segments.{Entry, by_signs, entries, left_over, most_bytes, segments_of, segments_in, told_in, whole}
+use Rattle.qc_edifact.specs.Segments.{Entry, by_signs, entries, most_bytes, segments_of, told_in, whole}
 use Rattle.qc_edifact.specs.Signs.{is_release, signs_told}
 use Rattle.qc_edifact.specs.Texts.{skip_blanks}
 use Rattle.qc_edifact.specs.declared.signs.Signs.{Signs}

@@ -1,8 +1,8 @@
 -- How many segments a text has at most.
-use Rattle.std.proofs.Common.{◌≡◌, ◌+◌, ◌-◌, ◌≤◌, ◌∷◌, ℕ, List, [], length, take, drop, cond, Bool, true, false, Option, None, Some, position, Result, Ok, Err, IfOk, arith, length-drop}
+use Rattle.std.proofs.Common.{◌+◌, ◌≤◌, ◌∷◌, ℕ, List, [], length, take, drop, cond, Bool, true, false, Option, None, Some, position, Result, Ok, Err, IfOk, arith, length-drop}
 use Rattle.std.specs.Prelude.{◌==◌, ◌&&◌, not, codes, filter, nat_le}
 use Rattle.std.specs.Str.{bytes_eq}
-use Rattle.qc_edifact.specs.Cuts.{cut, elements_of}
+use Rattle.qc_edifact.specs.Cuts.{cut}
 use Rattle.qc_edifact.specs.Segments.{Entry, by_signs, entries, left_over, most_bytes, segments_in, segments_of, told_in, whole}
 use Rattle.qc_edifact.specs.Signs.{signs_told, usual}
 use Rattle.qc_edifact.specs.Texts.{from_place, is_above_blank, mark, plain_text, skip_blanks, without_mark}

@@ -1,5 +1,5 @@
 -- public: the segments of a text.
-use Rattle.std.specs.Prelude.{ℕ, List, [], ◌∷◌, length, take, drop, Bool, true, false, nat_le, if◌then◌else◌, Result, Ok, Err, Option, None, Some, codes}
+use Rattle.std.specs.Prelude.{ℕ, List, [], ◌∷◌, length, take, drop, false, nat_le, if◌then◌else◌, Result, Ok, Err, Option, None, Some, codes}
 use Rattle.std.specs.Str.{bytes_eq}
 use Rattle.qc_edifact.specs.Cuts.{Elements, cut, elements_of}
 use Rattle.qc_edifact.specs.Signs.{signs_told, usual}
