@@ -1,5 +1,5 @@
 -- The next container, by the checks that are made of it.
-use Rattle.std.proofs.Common.{◌≡◌, ◌++◌, ◌∷◌, ◌∙◌, ℕ, List, [], map, not, Bool, true, false, Ok, Err, inl, inr, sym, ap, refl}
+use Rattle.std.proofs.Common.{◌≡◌, ◌∙◌, ℕ, List, not, Bool, true, false, Ok, Err, inl, inr, sym, ap, refl}
 use Rattle.std.proofs.lemmas.Bool.{cases_Bool, not-false, not-true}
 use Rattle.qc_stow.specs.Taken.{has_taken_cell}
 use Rattle.qc_stow.specs.declared.row.Move.{Move}

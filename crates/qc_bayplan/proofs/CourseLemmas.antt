@@ -1,13 +1,11 @@
 -- The counts of a course behind a segment.
-use Rattle.std.proofs.Common.{◌≡◌, ◌+◌, ◌-◌, ◌<◌, ◌≤◌, ℕ, Bool, true, false, cond, Option, None, Some, Result, Ok, Err, refl, subst, arith}
+use Rattle.std.proofs.Common.{◌≡◌, ◌+◌, ◌-◌, ◌≤◌, ℕ, Bool, true, false, cond, Option, None, Some, Result, Ok, refl, subst, arith}
 use Rattle.std.specs.Prelude.{⊤}
 use Rattle.qc_num.specs.Reading.{◌>>=◌, require}
 use Rattle.qc_num.proofs.ReadingLemmas.{same_ok}
 use Rattle.qc_edifact.specs.Cuts.{Elements, part_of}
 use Rattle.qc_bayplan.specs.Courses.{course_behind, has_container, has_text, is_container, is_number, is_other, is_partial, one_if, opened, others_at, with_container}
-use Rattle.qc_bayplan.specs.Reading.{step_to}
 use Rattle.qc_bayplan.specs.Taken.{HasCounts, HasRisen}
-use Rattle.qc_bayplan.specs.declared.container.Found.{Found}
 use Rattle.qc_bayplan.specs.declared.course.Course.{Course}
 use Rattle.qc_bayplan.specs.declared.course.Place.{Place}
 use Rattle.qc_bayplan.specs.declared.fault.BayPlanKind.{BayPlanKind}
@@ -15,7 +13,7 @@ use Rattle.qc_bayplan.specs.declared.stage.Tag.{Tag}
 use Rattle.qc_bayplan.specs.declared.stage.Tag.TheVariants as tag
 use Rattle.std.specs.Prelude.{codes, not}
 
-pub one_if-small : (test : Bool) → one_if test ≤ 1
+one_if-small : (test : Bool) → one_if test ≤ 1
 one_if-small true = omega arith
 one_if-small false = omega arith
 
@@ -92,18 +90,3 @@ risen number tag.InterchangeEnd segment course behind has e =
     required (HasRisen number) (is_number 1 (part_of segment 1 0)) _ _ behind e (kept number course _ has refl refl refl refl)
 risen number tag.Barred segment course behind has e = subst (HasRisen number) (same_ok e) (kept number course course has refl refl refl refl)
 risen number tag.Other segment course behind has e = subst (HasRisen number) (same_ok e) (kept number course course has refl refl refl refl)
-
--- and then the unnamed containers
-pub step-counts : (number : ℕ) (course : Course) (found : Option Found) → HasRisen number course → HasCounts (number + 1) (step_to course found).course
-step-counts number course None has = record {
-  first = omega (arith, has.first);
-  unnamed = omega (arith, has.unnamed);
-  bundled = omega (arith, has.bundled);
-  other = omega (arith, has.other);
-}
-step-counts number course (Some found) has = record {
-  first = omega (arith, has.first);
-  unnamed = omega (arith, has.unnamed, one_if-small found.unnamed);
-  bundled = omega (arith, has.bundled);
-  other = omega (arith, has.other);
-}

@@ -1,5 +1,5 @@
 -- public: the container that an EQD tells at a cell.
-use Rattle.std.specs.Prelude.{ℕ, List, ◌++◌, length, filter, find, codes, Bool, true, false, not, ◌&&◌, ◌||◌, ◌==◌, nat_le, nat_lt, if◌then◌else◌, Option, None, Some, Result, Ok, ⊤}
+use Rattle.std.specs.Prelude.{ℕ, List, ◌++◌, length, filter, find, codes, Bool, true, not, ◌&&◌, ◌||◌, ◌==◌, nat_le, nat_lt, if◌then◌else◌, Option, None, Some, Result, Ok, ⊤}
 use Rattle.std.specs.List.{list_any}
 use Rattle.std.specs.Str.{bytes_eq}
 use Rattle.qc_num.specs.Reading.{◌>>=◌, require}

@@ -1,4 +1,3 @@
-use Rattle.std.proofs.Common.{sym}
 use Rattle.qc_bayplan.proofs.CourseLemmas.{risen}
 use Rattle.qc_bayplan.proofs.step.step_by.Goals as goal
 

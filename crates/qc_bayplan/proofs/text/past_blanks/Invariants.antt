@@ -1,4 +1,4 @@
-use Rattle.std.proofs.Common.{◌≡◌, length, reverse}
+use Rattle.std.proofs.Common.{◌≡◌, length}
 use Rattle.qc_bayplan.specs.Places.{past_blanks}
 use Rattle.qc_bayplan.proofs.text.past_blanks.Given as goal
 
