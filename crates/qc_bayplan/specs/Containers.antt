@@ -19,10 +19,11 @@ use Rattle.qc_bayplan.specs.declared.fault.BayPlanKind.TheVariants as kind
 abbrev pub own_id : Elements → List ℕ
 own_id eqd = filter is_no_blank (part_of eqd 2 0)
 
--- a container without an id of its own; one for departure gets an id that is made of its cell
+-- a container for departure without an id of its own
 abbrev pub is_unnamed : Which → Elements → Bool
 is_unnamed which eqd = is_departure which && (length (own_id eqd) == 0)
 
+-- the id of a container: its own, or one that is made of its cell
 abbrev pub id_of : Which → Elements → CellView → List ℕ
 id_of which eqd cell = if is_unnamed which eqd then codes "NEW-" ++ cell_text cell else own_id eqd
 
@@ -53,10 +54,11 @@ abbrev pub container_at : Which → Elements → CellView → Result Found BayPl
 container_at which eqd cell =
     judged (id_of which eqd cell) (is_unnamed which eqd) (size_of eqd) cell
 
--- an earlier container has the id, or a cell that overlaps this one
+-- an earlier container has the id
 abbrev pub has_id : List Container → List ℕ → Bool
 has_id earlier id = list_any (λ other. bytes_eq id other.id) earlier
 
+-- an earlier container has a cell that overlaps this one
 abbrev pub is_taken : List Container → CellView → Bool
 is_taken earlier cell = list_any (λ other. overlap cell other.cell) earlier
 

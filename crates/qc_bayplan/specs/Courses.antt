@@ -19,11 +19,11 @@ use Rattle.qc_bayplan.specs.declared.stage.Tag.TheVariants as tag
 use Rattle.qc_bayplan.specs.declared.fault.BayPlanKind.{BayPlanKind}
 use Rattle.qc_bayplan.specs.declared.fault.BayPlanKind.TheVariants as kind
 
--- three letters
+-- three capital letters
 abbrev pub is_tag : List ℕ → Bool
 is_tag text = (length text == 3) && list_all is_ascii_uppercase text
 
--- groups, and the head of an interchange where it may not be
+-- what may come nowhere: service signs once more, and groups
 abbrev pub is_barred : List ℕ → Bool
 is_barred text =
     bytes_eq text (codes "UNA") || bytes_eq text (codes "UNG") || bytes_eq text (codes "UNE")
@@ -40,32 +40,37 @@ tag_named text =
     else (if bytes_eq text (codes "UNZ") then tag.InterchangeEnd
     else (if is_barred text then tag.Barred else tag.Other)))))))
 
--- what a text tells that must be a tag, and the tag of a segment
+-- what a text tells that must be a tag
 abbrev pub tag_of : List ℕ → Result Tag BayPlanKind
 tag_of text = do
   _ ← require (is_tag text) kind.Tag
   Ok (tag_named text)
 
+-- the tag of a segment
 abbrev pub tag_in : Elements → Result Tag BayPlanKind
 tag_in segment = tag_of (part_of segment 0 0)
 
--- an interchange begins, a message begins, an interchange ends, or what may stand in a message
+-- an interchange begins
 abbrev pub is_interchange : Tag → Bool
 is_interchange tag.Interchange = true
 is_interchange _ = false
 
+-- a message begins
 abbrev pub is_message : Tag → Bool
 is_message tag.Message = true
 is_message _ = false
 
+-- an interchange ends
 abbrev pub is_interchange_end : Tag → Bool
 is_interchange_end tag.InterchangeEnd = true
 is_interchange_end _ = false
 
+-- a container or other equipment
 abbrev pub is_equipment : Tag → Bool
 is_equipment tag.Equipment = true
 is_equipment _ = false
 
+-- what may stand in a message
 abbrev pub is_inner : Tag → Bool
 is_inner tag.Interchange = false
 is_inner tag.Message = false
@@ -104,6 +109,7 @@ is_number number text =
     list_all is_ascii_digit text && nat_le 1 (length text) && nat_le (length text) 9
     && (digits_value 10 text == number)
 
+-- a component of an element is this text
 abbrev pub has_text : Elements → ℕ → ℕ → List ℕ → Bool
 has_text segment element component text = bytes_eq (part_of segment element component) text
 
@@ -119,15 +125,18 @@ is_other held.Nothing = false
 is_other held.Other = true
 is_other held.Container = false
 
+-- a place with a container
 abbrev pub has_container : Held → Bool
 has_container held.Nothing = false
 has_container held.Other = false
 has_container held.Container = true
 
+-- one where a test holds, else none
 abbrev pub one_if : Bool → ℕ
 one_if true = 1
 one_if false = 0
 
+-- how many places with other equipment a place is
 abbrev pub others_at : Option Place → ℕ
 others_at None = 0
 others_at (Some place) = one_if (is_other place.held)
@@ -136,26 +145,29 @@ others_at (Some place) = one_if (is_other place.held)
 abbrev pub closed : Course → Course
 closed course = record course { place = None; other = course.other + others_at course.place }
 
--- behind a UNB, a UNH, a BGM, a LOC
+-- behind a UNB
 abbrev pub opened : Course → Course
 opened course = record course { stage = stage.Opened; wrapped = true }
 
+-- behind a UNH of this number
 abbrev pub begun : ℕ → Elements → Course → Result Course BayPlanKind
 begun number unh course = do
   _ ← require (has_text unh 2 0 (codes "BAPLIE")) kind.NotBaplie
   Ok (record course { stage = stage.Inside; first = number })
 
+-- behind a BGM
 abbrev pub told : Elements → Course → Result Course BayPlanKind
 told bgm course = do
   _ ← require (not (is_partial bgm)) kind.Partial
   Ok course
 
+-- behind a LOC: one of a place closes the open one and opens another
 abbrev pub located : Elements → Course → Course
 located loc course = if has_text loc 1 0 (codes "147")
     then record (closed course) { place = Some (record { cell = cell_at loc; held = held.Nothing }) }
     else course
 
--- behind an EQD of a container, and behind one of something else
+-- behind an EQD of a container: the place's own, or one that is bundled with it
 abbrev pub with_container : Course → Option Place → Result Course BayPlanKind
 with_container course None = Err kind.NoPlace
 with_container course (Some place) = if has_container place.held
@@ -167,32 +179,38 @@ abbrev pub free_place : Option Place → Option (Result CellView BayPlanKind)
 free_place None = None
 free_place (Some place) = if has_container place.held then None else Some place.cell
 
+-- what a place holds with other equipment
 abbrev pub and_other : Held → Held
 and_other held.Nothing = held.Other
 and_other held.Other = held.Other
 and_other held.Container = held.Container
 
+-- the place that is open, with other equipment
 abbrev pub with_other : Option Place → Option Place
 with_other None = None
 with_other (Some place) = Some (record { cell = place.cell; held = and_other place.held })
 
+-- an EQD tells a container
 abbrev pub is_container : Elements → Bool
 is_container eqd = has_text eqd 1 0 (codes "CN")
 
+-- behind an EQD
 abbrev pub equipped : Elements → Course → Result Course BayPlanKind
 equipped eqd course = if is_container eqd then with_container course course.place
     else Ok (record course { place = with_other course.place })
 
--- behind a UNT, which counts the segments from its UNH on, and behind a UNZ, which counts messages
+-- behind a message within an interchange a UNZ must come, else nothing
 abbrev pub behind_message : Bool → Stage
 behind_message true = stage.Closed
 behind_message false = stage.Over
 
+-- behind a UNT of this number, which counts the segments from its UNH on
 abbrev pub finished : ℕ → Elements → Course → Result Course BayPlanKind
 finished number unt course = do
   _ ← require (is_number (number + 1 - course.first) (part_of unt 1 0)) kind.Count
   Ok (record (closed course) { stage = behind_message course.wrapped })
 
+-- behind a UNZ, which counts the messages
 abbrev pub ended : Elements → Course → Result Course BayPlanKind
 ended unz course = do
   _ ← require (is_number 1 (part_of unz 1 0)) kind.Count

@@ -7,6 +7,7 @@ use Rattle.qc_edifact.specs.Cuts.{Elements, part_of}
 use Rattle.qc_bayplan.specs.declared.fault.BayPlanKind.{BayPlanKind}
 use Rattle.qc_bayplan.specs.declared.fault.BayPlanKind.TheVariants as kind
 
+-- any byte but a blank
 abbrev pub is_no_blank : ℕ → Bool
 is_no_blank b = not (b == 0x20)
 

@@ -64,6 +64,7 @@ step_of which number course earlier segment = do
   _ ← require (may_come course.stage tag) kind.Place
   step_by which number course earlier segment tag
 
+-- the segment that comes next, if it is one
 abbrev pub segment_in : Entry → Result Elements BayPlanKind
 segment_in (Ok segment) = Ok segment
 segment_in (Err TooLong) = Err kind.TooLong
@@ -80,6 +81,7 @@ next_step which number course earlier entry = do
 abbrev pub fault_at : ℕ → BayPlanKind → BayPlanFault
 fault_at number why = record { number = number; kind = why }
 
+-- an error with the number of its segment
 abbrev pub error_at : ℕ → ReadError BayPlanKind → ReadError BayPlanFault
 error_at number (Fault why) = Fault (fault_at number why)
 error_at number OutOfMemory = OutOfMemory

@@ -16,6 +16,7 @@ pub record TakenView : Type 0 where
   pub ids : List (List ℕ)
   pub slots : List (Move × Slot)
 
+-- a container takes what a load of it takes
 abbrev pub load_of : Container → Row
 load_of container = record { id = container.id; kind = Load; cell = container.cell }
 

@@ -34,10 +34,11 @@ unreleased signs taken (b ∷ bs) =
     let drops : Bool = not taken && is_release signs b in
     unless drops b (unreleased signs drops bs)
 
--- the elements of a segment, each with its components
+-- a segment by its elements, each by its components
 abbrev pub Elements : Type 0
 Elements = List (List (List ℕ))
 
+-- those of a segment's bytes, without release signs
 abbrev pub elements_of : Signs → List ℕ → Elements
 elements_of signs segment =
     map (λ element. map (unreleased signs false) (cut signs signs.component false element))

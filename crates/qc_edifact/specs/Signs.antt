@@ -41,6 +41,7 @@ six_signs bytes = record {
 abbrev pub signs_told : List ℕ → Option Signs
 signs_told bytes = if are_signs (six_signs bytes) then Some (six_signs bytes) else None
 
+-- a byte is this one, if there is one
 abbrev pub is_this : Option ℕ → ℕ → Bool
 is_this None b = false
 is_this (Some sign) b = b == sign

@@ -19,6 +19,7 @@ abbrev pub from_place : List ℕ → Option ℕ → List ℕ
 from_place text None = []
 from_place text (Some start) = drop start text
 
+-- no blank, line end or other control character
 abbrev pub is_above_blank : ℕ → Bool
 is_above_blank b = nat_lt 0x20 b
 
