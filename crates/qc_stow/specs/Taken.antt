@@ -1,4 +1,4 @@
--- inner: what the moves so far have taken.
+-- public: what the moves so far have taken.
 use Rattle.std.specs.Prelude.{ℕ, List, map, flat_map, Bool, ◌&&◌, ◌==◌}
 use Rattle.std.specs.List.{list_any}
 use Rattle.std.specs.Str.{bytes_eq}

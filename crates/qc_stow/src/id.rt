@@ -44,7 +44,7 @@ fn is_id(bytes: &[u8]) -> bool
 
 impl Id {
     /// The id with these bytes; `None` exactly where they aren't an id.
-    pub(crate) fn of(bytes: &[u8]) -> Option<Id>
+    pub fn of(bytes: &[u8]) -> Option<Id>
         ensures id { IsSome result ↔ IsTrue (is_id bytes.now) }
         ensures bytes { IfSome result (λ i. i ≡ bytes.now) }
     {

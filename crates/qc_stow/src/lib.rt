@@ -18,3 +18,4 @@ pub use id::Id;
 pub use moves::{MOST_MOVES, Moves};
 pub use reader::read_stow;
 pub use row::{Move, Row};
+pub use taken::Taken;

@@ -12,7 +12,7 @@ use std::marker::Model;
 
 /// A slot of 20 feet.
 #[derive(Clone, Copy, PartialEq, Eq, Hash)]
-pub(crate) struct Slot {
+pub struct Slot {
     bay: u16,
     row: u8,
     tier: u8,
@@ -20,7 +20,7 @@ pub(crate) struct Slot {
 
 /// The ids and the slots of 20 feet that moves have taken, each by a kind of move.
 #[derive(Drop)]
-pub(crate) struct Taken<'a> {
+pub struct Taken<'a> {
     ids: IndexSet<(Move, &'a [u8])>,
     slots: IndexSet<(Move, Slot)>,
 }
@@ -36,7 +36,7 @@ impl<'a> Model for Taken<'a> {
 
 impl<'a> Taken<'a> {
     /// Nothing is taken.
-    pub(crate) fn new(alloc: Global) -> Taken<'a>
+    pub fn new(alloc: Global) -> Taken<'a>
         ensures ids { result.ids ≡ [] }
         ensures slots { result.slots ≡ [] }
     {
@@ -67,7 +67,7 @@ impl<'a> Taken<'a> {
     }
 
     /// Takes the slots of a cell; `false` where one of them is taken already.
-    pub(crate) fn take_cell(&mut self, kind: Move, cell: Cell) -> Result<bool, OutOfMemory>
+    pub fn take_cell(&mut self, kind: Move, cell: Cell) -> Result<bool, OutOfMemory>
         ensures new { IfOk result (λ new. new ≡ not (has_taken_cell self.old.slots kind cell)) }
         ensures slots { IfOk result
             (λ new. IsTrue new → self.new.slots ≡ self.old.slots

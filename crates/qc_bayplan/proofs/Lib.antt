@@ -1,0 +1,4 @@
+pub mod TakenLemmas
+pub mod ContainerLemmas
+pub mod CourseLemmas
+pub mod ReadingLemmas

@@ -1,0 +1,4 @@
+pub mod Texts
+pub mod Signs
+pub mod Cuts
+pub mod Segments
