@@ -1,5 +1,5 @@
 -- The steps of the search for a ring.
-use Rattle.std.proofs.Common.{◌≡◌, ◌≢◌, ◌⊎◌, ℕ, ◌+◌, ◌<◌, ◌≤◌, ◌++◌, ◌∷◌, ◌==◌, ◌&&◌, ◌||◌, [], Bool, true, false, cond, not, List, length, get_or, take, set, refl, sym, ap, subst, inl, inr, ◌∙◌, arith, Contains, count_by}
+use Rattle.std.proofs.Common.{◌≡◌, ◌⊎◌, ℕ, zero, suc, ◌+◌, ◌<◌, ◌≤◌, ◌++◌, ◌∷◌, ◌==◌, ◌&&◌, ◌||◌, [], Bool, true, false, cond, not, List, length, get_or, replicate, set, refl, sym, ap, subst, inl, inr, ◌∙◌, arith, Contains, count_by}
 use Rattle.std.proofs.lemmas.Bool.{and_from, and_parts, cases_Bool, cases_lt, or_cases, or_left, or_right}
 use Rattle.std.proofs.lemmas.Bool.Decides.{Decides-eqb, nat_tests}
 use Rattle.std.proofs.lemmas.List.{get_or-set_other, get_or-set_same, get_or-take, get_or_default, length-take}
@@ -38,7 +38,7 @@ module _ (pairs : List Pair) (from : ℕ) (marks : List Bool) (p : Pair) (has : 
   pub unmarked_less : unmarked (set marks p.second true) < unmarked marks
   unmarked_less =
       let was : not (at marks p.second) ≡ true = (and_parts (leads_on marks from p) (not (at marks p.second)) new).1 in
-      let one : cond (not (at marks p.second)) 1 0 ≡ 1 = rw was refl in
+      let one : ◌≡◌ {A = ℕ} (cond (not (at marks p.second)) 1 0) 1 = rw was refl in
       omega (arith, sum_by-set (λ b. cond (not b) 1 0) marks p.second true false lt, one)
 
 -- a pair that leads on to no new task
@@ -76,3 +76,17 @@ marked_is pairs from marks j reached all = elim (cases_Bool (at marks j)) [
     | inr none ↦ bare ∙ sym none
   ]
 ]
+
+-- no mark goes
+pub no_more_unmarked : (more : Bool) (first marks : List Bool) → (more ≡ false → marks ≡ first) → (more ≡ true → unmarked marks < unmarked first) → unmarked marks ≤ unmarked first
+no_more_unmarked true first marks same fewer = omega (arith, fewer refl)
+no_more_unmarked false first marks same fewer = rw (same refl) (omega arith)
+
+pub fewer_still : (a b c : ℕ) → a < b → b ≤ c → a < c
+fewer_still a b c one two = omega arith
+
+-- at first no task is marked
+pub none_marked : (n j : ℕ) → get_or (replicate n false) j false ≡ true → ⊥
+none_marked zero j e = cc e
+none_marked (suc n) zero e = cc e
+none_marked (suc n) (suc j) e = none_marked n j e

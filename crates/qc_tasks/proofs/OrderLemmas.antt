@@ -9,19 +9,22 @@ use Rattle.std.proofs.lemmas.List.{take-append-drop, take_all}
 use Rattle.std.proofs.lemmas.List.Folds.{list_any-append}
 use Rattle.qc_model.specs.declared.task.Task.{Task}
 use Rattle.qc_model.specs.declared.pair.Pair.{Pair}
+use Rattle.qc_model.specs.Numbers.{most_tasks}
 use Rattle.qc_model.specs.Tasks.{phase_rank}
 use Rattle.qc_model.specs.Instance.{InstanceView, IsPath, pair_of}
 use Rattle.qc_ship.specs.declared.ship.NamePair.{NamePair}
-use Rattle.qc_ship.specs.Ship.{ShipView}
+use Rattle.qc_ship.specs.Ship.{ShipView, IsShip}
 use Rattle.qc_ship.specs.Cells.{is_on_deck}
 use Rattle.qc_stow.specs.Moves.{is_discharge, is_load}
 use Rattle.qc_stow.specs.declared.row.Move.{Move}
 use Rattle.qc_stow.specs.declared.row.Move.TheVariants.{Discharge, Load}
 use Rattle.qc_stow.specs.declared.row.Row.{Row}
 use Rattle.qc_tasks.specs.InstanceOf.{before_of, brings_back, discharges, instance_of, is_asked, is_before, is_earlier_phase, is_move_of, is_put_before, is_restow, phase_with, puts_before, task_at, tasks_of}
+use Rattle.qc_tasks.specs.Marks.{AreBelow}
 use Rattle.qc_tasks.specs.Rings.{ClosesRing, before_with, first_ring, has_ring, tasks_due}
 use Rattle.qc_tasks.proofs.Lists.{any_some}
 use Rattle.qc_tasks.proofs.PairFacts.{pairs_have, pairs_pass}
+use Rattle.qc_tasks.proofs.TaskFacts.{few_tasks}
 use Rattle.qc_tasks.proofs.RingLemmas.{Way, find_none, find_some, no_path, path_weaker, ring_path}
 
 path_rises : (pairs : List Pair) (rank : ℕ → ℕ) → ((i j : ℕ) → Contains pairs (pair_of i j) → rank i < rank j) → (i : ℕ) (via : List ℕ) (j : ℕ) → IsPath pairs i via j → rank i < rank j
@@ -83,6 +86,11 @@ module _ (ship : ShipView) (rows : List Row) where
   low_first entries i j has =
       (pairs_pass (length (tasks_of ship rows)) (is_before (is_asked ship.ordered entries rows (tasks_of ship rows)) (tasks_of ship rows)) i j has).0
 
+  pub below_most : IsShip ship → (entries : List NamePair) → AreBelow most_tasks (order entries)
+  below_most is entries i j has =
+      let p = pairs_pass (length (tasks_of ship rows)) (is_before (is_asked ship.ordered entries rows (tasks_of ship rows)) (tasks_of ship rows)) i j has in
+      (omega (arith, p.0, few_tasks ship is rows), omega (arith, p.1, few_tasks ship is rows))
+
   -- without an entry there is no ring
   no_ring_built_in : (i : ℕ) (via : List ℕ) → ¬ IsPath (order []) i via i
   no_ring_built_in i via path =
@@ -116,9 +124,9 @@ module _ (ship : ShipView) (rows : List Row) where
       let found : first_ring ship rows ≡ None = find_none test 1 (length ship.before) (λ k low high. elim (cases_Bool (test k)) [
         | inr no_ring ↦ no_ring
         | inl ring ↦
-            let (i, via, path) = ring_path (length (tasks_of ship rows)) (before_with ship rows k) ring in
-            absurd (no_path (length (tasks_of ship rows)) (order ship.before) (low_first ship.before) none i via
-            (path_weaker (before_with ship rows k) (order ship.before) (front_pairs k) i via i path))
+            let (i, way) = ring_path (length (tasks_of ship rows)) (before_with ship rows k) ring in
+            absurd (no_path (length (tasks_of ship rows)) (order ship.before) (low_first ship.before) none i way.0
+            (path_weaker (before_with ship rows k) (order ship.before) (front_pairs k) i way.0 i way.1))
       ]) in
       rw found refl
 
@@ -128,11 +136,12 @@ module _ (ship : ShipView) (rows : List Row) where
       → (tasks_due ship rows ≡ Err k) × ClosesRing ship rows k
   ring_due k low high here earlier =
       let test : ℕ → Bool = λ k. has_ring (length (tasks_of ship rows)) (before_with ship rows k) in
+      let (i, way) = ring_path (length (tasks_of ship rows)) (before_with ship rows k) here in
       let found : first_ring ship rows ≡ Some k = find_some test 1 (length ship.before) k low (omega arith) here earlier in (
         rw found refl,
         record {
           count = (low, high);
-          ring = ring_path (length (tasks_of ship rows)) (before_with ship rows k) here;
+          ring = (i, way.0, way.1);
           first = λ n lt. at n lt;
         },
       )
@@ -149,9 +158,9 @@ module _ (ship : ShipView) (rows : List Row) where
         let whole : take (length ship.before) ship.before ≡ ship.before = take_all (length ship.before) ship.before (omega arith) in
         cc (sym ring ∙ ap (λ (es : List NamePair). has_ring (length (tasks_of ship rows)) (order es)) (sym whole) ∙ none (length ship.before) (omega arith) (omega arith))
     | inr empty ↦
-        let (i, via, path) = ring_path (length (tasks_of ship rows)) (order ship.before) ring in
+        let (i, way) = ring_path (length (tasks_of ship rows)) (order ship.before) ring in
         let nothing : ship.before ≡ [] = no_entries ship.before (omega arith) in
-        no_ring_built_in i via (subst (λ (es : List NamePair). IsPath (order es) i via i) nothing path)
+        no_ring_built_in i way.0 (subst (λ (es : List NamePair). IsPath (order es) i way.0 i) nothing way.1)
   ]
     where
       no_entries : (es : List NamePair) → length es ≤ 0 → es ≡ []

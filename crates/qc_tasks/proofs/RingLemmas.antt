@@ -1,5 +1,5 @@
 -- Ways over pairs, and rings.
-use Rattle.std.proofs.Common.{◌≡◌, ◌⊎◌, ℕ, zero, suc, ◌+◌, ◌<◌, ◌≤◌, ◌++◌, ◌∷◌, ◌==◌, ◌&&◌, ◌||◌, [], Bool, true, false, List, Some, None, length, find, refl, sym, ap, subst, inl, inr, ◌∙◌, arith, Contains}
+use Rattle.std.proofs.Common.{◌≡◌, ◌⊎◌, ℕ, zero, suc, ◌+◌, ◌<◌, ◌≤◌, ◌++◌, ◌∷◌, ◌==◌, ◌&&◌, ◌||◌, [], Bool, true, false, List, Some, None, length, find, refl, sym, ap, subst, inl, inr, ◌∙◌, arith, zero-add, Contains}
 use Rattle.std.specs.List.{list_any, range_with_len}
 use Rattle.std.proofs.lemmas.Bool.{and_from, and_parts, or_cases, or_left, or_right}
 use Rattle.std.proofs.lemmas.Bool.Decides.{Decides-eqb}
@@ -137,7 +137,7 @@ ring_path count pairs e =
 pub ring_at : (test : ℕ → Bool) (count i : ℕ) → i < count → test i ≡ true → list_any test (range_with_len 0 count) ≡ true
 ring_at test count i lt e =
     list_any_at test (range_with_len 0 count) i 0 (omega (arith, length-range_with_len 0 count))
-    (ap test (get_or-range_with_len 0 count i 0 lt) ∙ e)
+    (ap test (get_or-range_with_len 0 count i 0 lt ∙ zero-add i) ∙ e)
 
 pub none_more : (test : ℕ → Bool) (n m : ℕ) → m ≡ n + 1 → list_any test (range_with_len 0 n) ≡ false → test n ≡ false → list_any test (range_with_len 0 m) ≡ false
 none_more test n m e none here = ap (list_any test) (range_more n m e) ∙ list_any-append test (range_with_len 0 n) (n ∷ []) ∙ rw (none, here) refl

@@ -23,8 +23,8 @@ use Rattle.qc_stow.specs.Moves.{most_moves}
 use Rattle.qc_stow.specs.declared.row.Move.{Move}
 use Rattle.qc_stow.specs.declared.row.Move.TheVariants.{Discharge, Load}
 use Rattle.qc_stow.specs.declared.row.Row.{Row}
-use Rattle.qc_tasks.specs.InstanceOf.{apart_of, before_of, brings_back, discharges, instance_of, is_apart, is_before, is_earlier_phase, is_move_of, is_restow, names_both, pairs_with, phase_with, phases, task_at, tasks_at, tasks_of}
-use Rattle.qc_tasks.proofs.Lists.{each_from, each_weaker, each_flat_map, each_zip, pairs_by_index}
+use Rattle.qc_tasks.specs.InstanceOf.{apart_of, before_of, brings_back, discharges, instance_of, is_apart, is_asked, is_before, is_earlier_phase, names_both, pairs_with, phases, task_at, tasks_at, tasks_of}
+use Rattle.qc_tasks.proofs.Lists.{any_each, each_from, each_weaker, each_flat_map, each_zip, pairs_by_index}
 use Rattle.qc_tasks.proofs.TaskFacts.{Follows, IsTaskAt, all_follow, few_tasks, four_tasks, hatch_are, lower_hatch}
 use Rattle.qc_tasks.proofs.WorkFacts.{all_work}
 use Rattle.qc_tasks.proofs.PairFacts.{few_apart, pairs_have, pairs_pass, pairs_sorted}

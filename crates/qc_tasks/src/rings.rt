@@ -1,6 +1,6 @@
 //! Whether the order of tasks has a ring.
-ghost use Rattle.std.specs.Prelude.{◌≡◌, ◌≤◌, ◌<◌, length, false};
-ghost use Rattle.qc_model.specs.declared.limits.TheConstants.{MOST_TASKS};
+ghost use Rattle.std.specs.Prelude.{◌≡◌, ◌≤◌, ◌<◌, length, true, false};
+ghost use Rattle.qc_model.specs.Numbers.{most_tasks};
 ghost use Rattle.qc_tasks.specs.Marks.{AreAll, AreBelow, AreReached, is_new, unmarked};
 ghost use Rattle.qc_tasks.specs.Rings.{has_ring, leads};
 
@@ -21,7 +21,7 @@ fn spread(marks: &mut [bool], pairs: &[Pair], from: usize) -> bool
     requires { AreBelow (length marks.old) pairs.now }
     ensures reached { AreReached pairs.now from marks.old → AreReached pairs.now from marks.new }
     ensures all { result ≡ false → AreAll pairs.now from marks.new }
-    ensures fewer { IsTrue result → unmarked marks.new < unmarked marks.old }
+    ensures fewer { result ≡ true → unmarked marks.new < unmarked marks.old }
 {
     let mut more = false;
     for pair in pairs {
@@ -35,8 +35,8 @@ fn spread(marks: &mut [bool], pairs: &[Pair], from: usize) -> bool
 
 /// Whether one comes from a task back to it by pairs.
 fn comes_back(pairs: &[Pair], task: usize) -> bool
-    requires pairs { AreBelow MOST_TASKS pairs.now }
-    requires task { task < MOST_TASKS }
+    requires pairs { AreBelow most_tasks pairs.now }
+    requires task { task < most_tasks }
     ensures { result ≡ leads pairs.now task task }
 {
     let mut marks = [false; MOST_TASKS as usize];
@@ -46,8 +46,8 @@ fn comes_back(pairs: &[Pair], task: usize) -> bool
 
 /// Whether one of so many tasks would have to end before it starts.
 pub(crate) fn has_ring(pairs: &[Pair], count: usize) -> bool
-    requires pairs { AreBelow MOST_TASKS pairs.now }
-    requires count { count ≤ MOST_TASKS }
+    requires pairs { AreBelow most_tasks pairs.now }
+    requires count { count ≤ most_tasks }
     ensures { result ≡ has_ring count pairs.now }
 {
     for task in 0..count {
