@@ -12,7 +12,7 @@ use crate::refusal::{Refusal, Stop};
 use qc_gantt::{PlanError, read_plan};
 use qc_io::{ReadAll, Shelf, read_all};
 use qc_model::{Instance, Schedule};
-use qc_num::{Bytes, OutOfMemory};
+use qc_num::Bytes;
 use qc_ship::{Key, Ship, ShipError, ShipFault, ShipKind, read_ship};
 use qc_stow::{Moves, StowError, read_stow};
 use qc_tasks::{TasksError, tasks_of};

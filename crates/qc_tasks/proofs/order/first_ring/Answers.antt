@@ -1,5 +1,4 @@
 use Rattle.std.proofs.Common.{◌≡◌, ◌∙◌, ◌≤◌, ◌<◌, ◌-◌, ℕ, false, true, inl, inr, length, sym, ap, subst, arith}
-use Rattle.std.proofs.Math.Nat.{sub-zero}
 use Rattle.std.proofs.lemmas.Bool.{cases_lt}
 use Rattle.qc_tasks.specs.InstanceOf.{tasks_of}
 use Rattle.qc_tasks.specs.Rings.{before_with, has_ring}
@@ -9,7 +8,7 @@ use Rattle.qc_tasks.proofs.order.first_ring.Goals as goal
 pub returns-then-branch : goal.returns-then-branch
 returns-then-branch c =
     let entries = ap length c.before-entries.ensures.before in
-    let ring = rw (c.requires.tasks, c.before-entries.ensures.before, sub-zero) at c.in_ok-rings_with.ensures in
+    let ring = rw (c.requires.tasks, c.before-entries.ensures.before) at c.in_ok-rings_with.ensures in
     ring_due c.args.ship.now c.args.rows.now c.loop-count.count c.loop-count.auto.count (omega (arith, c.loop-count-test.true, entries))
     (sym ring ∙ c.if-branch.true) c.loop-count.invariant
 
@@ -19,7 +18,7 @@ loop-count-preserved c = λ n low lt.
       | inl before ↦ c.loop-count.invariant n low before
       | inr last ↦
           let same : c.loop-count.count ≡ n = omega arith in
-          let ring = rw (c.requires.tasks, c.before-entries.ensures.before, sub-zero) at c.in_ok-rings_with.ensures in
+          let ring = rw (c.requires.tasks, c.before-entries.ensures.before) at c.in_ok-rings_with.ensures in
           subst (λ (k : ℕ). has_ring (length (tasks_of c.args.ship.now c.args.rows.now)) (before_with c.args.ship.now c.args.rows.now k) ≡ false) same
           (sym ring ∙ c.if-branch.false)
     ]
