@@ -161,21 +161,21 @@ module _ {A B : Type 0} (step : Contents → Result A Refusal) (next : A → Con
     everywhere (Some held) = due held
 
 -- the order of a ship's tasks is refused for a fault of the ship file, or memory was wanting
-module _ {B : Type 0} (ship : ShipView) (rows : List Row) (next : InstanceView → Contents → Result B Refusal) (names : Names) where
+module _ {B : Type 0} (ship : ShipView) (rows : List Row) (next : List Row → InstanceView → Contents → Result B Refusal) (names : Names) where
   pub order_stops : {before after : View} {out : Result B Stop} (why : Stop) → IsStep (moves_due ship) names before after (Ok rows) → IsSome names.ship
       → IsDue (order_due ship rows) (Err why) → IsErrAnd out (λ e. e ≡ why)
-      → IsStep (λ contents. moves_due ship contents >>= λ rows. order_due ship rows >>= λ inst. next inst contents) names before after out
-  order_stops stop.OutOfMemory first named due handed = step_starved (moves_due ship) (λ rows contents. order_due ship rows >>= λ inst. next inst contents) names first handed
+      → IsStep (λ contents. moves_due ship contents >>= λ rows. order_due ship rows >>= λ inst. next rows inst contents) names before after out
+  order_stops stop.OutOfMemory first named due handed = step_starved (moves_due ship) (λ rows contents. order_due ship rows >>= λ inst. next rows inst contents) names first handed
   order_stops {before = before} {after = after} {out = out} (stop.Refused why) first named due handed = by (tasks_due ship rows) refl
     where
-      by : (r : Result InstanceView ℕ) → tasks_due ship rows ≡ r → IsStep (λ contents. moves_due ship contents >>= λ rows. order_due ship rows >>= λ inst. next inst contents) names before after out
+      by : (r : Result InstanceView ℕ) → tasks_due ship rows ≡ r → IsStep (λ contents. moves_due ship contents >>= λ rows. order_due ship rows >>= λ inst. next rows inst contents) names before after out
       by (Ok inst) is = absurd (cc (sym due ∙ ap (with_fault (λ k. refusal.BadShip (fault kind.Ring key.Before k))) is))
       by (Err k) is =
           let ring = fault kind.Ring key.Before k in
           let refused : order_due ship rows ≡ Err (refusal.BadShip ring) = ap (with_fault (λ k. refusal.BadShip (fault kind.Ring key.Before k))) is in
           let same : why ≡ refusal.BadShip ring = cc (sym due ∙ refused) in
-          step_ship (moves_due ship) (λ rows contents. order_due ship rows >>= λ inst. next inst contents) names first named ring
-          (λ held. ap (λ (r : Result InstanceView Refusal). r >>= λ inst. next inst (contents_in held names)) refused)
+          step_ship (moves_due ship) (λ rows contents. order_due ship rows >>= λ inst. next rows inst contents) names first named ring
+          (λ held. ap (λ (r : Result InstanceView Refusal). r >>= λ inst. next rows inst (contents_in held names)) refused)
           (subst (λ (w : Refusal). IsErrAnd out (λ e. e ≡ stop.Refused w)) same handed)
 
 -- ---- each step is steady

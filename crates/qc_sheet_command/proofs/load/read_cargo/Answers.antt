@@ -17,7 +17,7 @@ returns-in_err-moves-clause-step g c =
 pub returns-in_err-inst-clause-step : goal.returns-in_err-inst-clause-step
 returns-in_err-inst-clause-step g c =
     step_then _ _ _ ship_steady c.in_ok-ship.ensures
-    (order_stops c.in_ok-ship.ship c.in_ok-moves.moves (λ inst contents. Ok (record { ship = c.in_ok-ship.ship; moves = c.in_ok-moves.moves; inst = inst })) _ c.in_err-inst.field-0.0 c.in_ok-moves.ensures.step refl c.in_err-inst.ensures.due c.from_residual-in_err-inst.ensures.1)
+    (order_stops c.in_ok-ship.ship c.in_ok-moves.moves (λ rows inst contents. Ok (record { ship = c.in_ok-ship.ship; moves = rows; inst = inst })) _ c.in_err-inst.field-0.0 c.in_ok-moves.ensures.step refl c.in_err-inst.ensures.due c.from_residual-in_err-inst.ensures.1)
 
 pub returns-clause-step : goal.returns-clause-step
 returns-clause-step g c =
