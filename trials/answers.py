@@ -3,7 +3,7 @@
 `answer` gives status and report, or None where `plan` or `free` goes on to search; `search_fault` then says what is wrong
 with such an answer. Files are bytes by their roles: `ship`, `stow`, `plan`, `tree`, `freetree`, `own`, `places`, `events`.
 """
-from faults import list_fault, ship_or_fault
+from faults import list_fault, ring_fault, ship_or_fault
 from free import FreeReader, first_break, freecheck_report, tight_free
 from judges import tight_form
 from picture import answer as drawing
@@ -48,6 +48,9 @@ def opened(files):
     fault = list_fault(ship, files["stow"])
     if fault:
         return None, None, (6, [fault])
+    fault = ring_fault(ship, files["stow"])
+    if fault:
+        return None, None, (5, [fault])
     return ship, instance_of(ship, files["stow"]), None
 
 

@@ -1,12 +1,14 @@
 """The first fault of a ship file or of a stowage list, worked out from the formats alone.
 
-`ship_or_fault` and `list_fault` answer what `qc` must print of a file of any bytes, as `BadShip Range travel 0`. Like
+`ship_or_fault` and `list_fault` answer what `qc` must print of a file of any bytes, as `BadShip Range travel 0`,
+`ring_fault` what it prints of two good files whose order has a ring. Like
 reference.py this is a second opinion: nothing is taken from the program, TOML and CSV are read by Python's library.
 """
 import re
 import tomllib
+from dataclasses import replace
 
-from reference import columns_of, read_ship, records_of
+from reference import PHASES, columns_of, instance_of, read_ship, records_of
 
 REQUIRED = object()
 
@@ -76,6 +78,17 @@ def judge_apart(pairs, hatches):
             raise Fault("Apart", "apart", k)
 
 
+def judge_before(pairs, hatches):
+    names = [f"{hatch}-{phase}" for hatch in hatches for phase in PHASES]
+    for k, pair in enumerate(pairs, 1):
+        if not (isinstance(pair, list) and len(pair) == 2 and all(isinstance(name, str) for name in pair)):
+            raise Fault("WrongKind", "before", k)
+        if not set(pair) <= set(names):
+            raise Fault("Task", "before", k)
+        if pair[0] == pair[1]:
+            raise Fault("Same", "before", k)
+
+
 def judge_cranes(cranes, hatches, berths, gap):
     names = []
     for k, keys in enumerate(cranes, 1):
@@ -135,6 +148,7 @@ def judge_ship(data):
     if ship.value("restows", str, "free") not in ("free", "ordered"):
         raise Fault("Range", "restows")
     judge_apart(ship.array("apart", 0, 100, []), hatches)
+    judge_before(ship.array("before", 0, 240, []), hatches)
     judge_cranes(ship.array("crane", 1, 8), len(hatches), (-10_000, 16_000) if with_places else (-200, 300), gap)
 
 
@@ -201,4 +215,23 @@ def list_fault(ship, data):
             fault = row_fault([record[at] for at in places], ship, earlier)
         if fault:
             return f"BadStow {fault} {number}"
+    return None
+
+
+def is_ring(count, pairs):
+    """Whether one of so many tasks comes before itself by pairs: tasks with none left before them go, until none does."""
+    left = set(range(count))
+    while True:
+        first = {j for j in left if not any(i in left for i, k in pairs if k == j)}
+        if not first:
+            return bool(left)
+        left -= first
+
+
+def ring_fault(ship, data):
+    """What `qc` says of a ship and its list, good ones, where the planner's own order has a ring, else None."""
+    for k in range(1, len(ship.asked) + 1):
+        inst = instance_of(replace(ship, asked=ship.asked[:k]), data)
+        if is_ring(len(inst.tasks), inst.before):
+            return f"BadShip Ring before {k}"
     return None

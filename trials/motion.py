@@ -31,6 +31,7 @@ class Ship:
         self.cover = table.get("cover", 0)
         self.ordered = table.get("restows", "free") == "ordered"
         self.apart = table.get("apart", [])
+        self.asked = table.get("before", [])
         self.cranes = table["crane"]
         self.bays = self.places[-1]
 
@@ -64,6 +65,7 @@ def tasks_of(ship, path):
               if tasks[a][0] == tasks[b][0] and PHASES.index(tasks[a][1]) < PHASES.index(tasks[b][1])}
     if ship.ordered:
         before |= {(two["D"], two["L"]) for two in ids.values() if len(two) == 2}
+    before |= {(a, b) for a, b in ship.asked if a in tasks and b in tasks}
     return tasks, before
 
 

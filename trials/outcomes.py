@@ -29,7 +29,7 @@ from pathlib import Path
 sys.dont_write_bytecode = True  # no folder of compiled files beside the scripts
 
 from cases import DATA, Case, content
-from faults import list_fault, ship_or_fault
+from faults import list_fault, ring_fault, ship_or_fault
 from judges import SearchJudge, is_tight, tight_form
 from packed import Search, bare, lists_of
 from reference import (NEVER, TreeReader, bound_text, crane_lines, direction_of, dump, end_of, instance_of, plan_text,
@@ -208,7 +208,7 @@ class Trouble(Exception):
 def read_instance(ship, stow):
     """The instance of two files, or None where one of them is faulty."""
     ship, fault = ship_or_fault(ship)
-    return None if fault or list_fault(ship, stow) else instance_of(ship, stow)
+    return None if fault or list_fault(ship, stow) or ring_fault(ship, stow) else instance_of(ship, stow)
 
 
 def given_of(outcome, inst, words, files):

@@ -137,6 +137,7 @@ class Ship:
     cover: int
     ordered: bool
     apart: list
+    asked: list    # pairs of names, the first task before the second
     cranes: tuple
 
     def hatch_of(self, bay):
@@ -156,7 +157,8 @@ def read_ship(data):
         for crane in table["crane"])
     gap = table["clear"] if "places" in table else table["margin"] + 1
     return Ship(hatches, places, gap, table["travel"], table["deck_move"], table["hold_move"],
-                table.get("cover", 0), table.get("restows", "free") == "ordered", table.get("apart", []), cranes)
+                table.get("cover", 0), table.get("restows", "free") == "ordered", table.get("apart", []),
+                table.get("before", []), cranes)
 
 
 def records_of(data):
@@ -202,7 +204,7 @@ def instance_of(ship, data):
             if first.hatch == second.hatch and PHASES.index(first.phase) < PHASES.index(second.phase):
                 before.add((i, j))
             moved_twice = first.phase[0] == "D" and second.phase[0] == "L" and set(doing[i]) & set(doing[j])
-            if ship.ordered and moved_twice:
+            if ship.ordered and moved_twice or [first.name, second.name] in ship.asked:
                 before.add((i, j))
             if i < j and any(sorted(pair) == sorted((first.hatch, second.hatch)) for pair in ship.apart):
                 apart.add((i, j))

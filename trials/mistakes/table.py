@@ -52,6 +52,8 @@ DECK = "a whole number from 1 to 10000, the ticks of a move on deck"
 HOLD = "a whole number from 1 to 10000, the ticks of a move in the hold"
 COVER = "a whole number from 0 to 10000, the ticks for the hatch cover"
 RESTOWS = '"free" or "ordered"'
+BEFORE = ("at most 240 pairs of tasks in brackets, as [[\"2-DD\", \"6-DD\"]], of which the first ends before the "
+          "second starts")
 APART = "at most 100 pairs of hatches in brackets, as [[20, 24]]"
 CRANE = "1 to 8 cranes, each below a line [[crane]] of its own"
 NAME = '1 to 12 letters from A to Z or a to z, digits, - and _ between double quotes, as "STS-1"'
@@ -347,6 +349,20 @@ MISTAKES = [
           "hatches does"]),
     ship("apart with itself", [("[[20, 24]]", "[[20, 20]]")], "BadShip Apart apart 1",
          ["qc: ship.toml, line 16: pair 1 of apart names one hatch twice; two different hatches are wanted"]),
+    ship("a phase that there is not", [("margin = 1\n", 'margin = 1\nbefore = [["6-DD", "2-DX"]]\n')], "BadShip Task before 1",
+         ['qc: ship.toml, line 4: pair 1 of before names "6-DD" and "2-DX"; a task is a number of hatches, - and DD, DH, LH or '
+          'LD, as "2-DD"'], base="first"),
+    ship("before itself", [("margin = 1\n", 'margin = 1\nbefore = [["6-DD", "6-DD"]]\n')], "BadShip Same before 1",
+         ["qc: ship.toml, line 4: pair 1 of before names 6-DD twice; two different tasks are wanted"], base="first"),
+    ship("hatches before one another", [("margin = 1\n", "margin = 1\nbefore = [[6, 2]]\n")], "BadShip WrongKind before 1",
+         ["qc: ship.toml, line 4: element 1 of before can't stand there; before may be " + BEFORE], base="first"),
+    ship("each before the other", [("margin = 1\n", 'margin = 1\nbefore = [["6-DD", "2-DD"], ["2-DD", "6-DD"]]\n')],
+         "BadShip Ring before 2",
+         ["qc: ship.toml, line 4: by pair 2 of before 2-DD ends before 6-DD starts, and by the pairs ahead of it, phases of a "
+          "hatch and ordered restows 6-DD ends before 2-DD starts"], base="first"),
+    ship("before a task without a move", [("margin = 1\n", 'margin = 1\nbefore = [["6-DD", "2-LD"]]\n')], "task 2-DD 1 20",
+         ["qc: note: ship.toml, line 4: pair 1 of before, 6-DD and 2-LD, says nothing: the list has no move of one of them"],
+         base="first", status=0),
     # ---- the stowage list: its form
     stow("semicolons", "id;move;cell;length\nA1;D;020082;40\n", "BadStow Header 1",
          ['qc: stow.csv, line 1, record 1: "id;move;cell;length" isn\'t the header ' + HEADER + ": " + SEMICOLONS],

@@ -15,6 +15,7 @@ use Rattle.qc_model.specs.Instance.{InstanceView, bay_of, ticks_of, crane, pair_
 use Rattle.qc_model.specs.Nodes.{IsSettled, assigned, forced, free, head, reaches}
 use Rattle.qc_model.specs.OneWay.{mirror}
 use Rattle.qc_model.specs.Ticks.{task_distance, travel_between}
+use Rattle.qc_tasks.specs.Rings.{has_ring, leads}
 
 -- a crane that works from one bay to another
 abbrev reaching : List ℕ → ℕ → ℕ → ℕ → ℕ → Crane
@@ -214,3 +215,24 @@ mirror-of-three-cranes = (refl, refl, refl, refl, refl, refl)
 -- A task at bay 4; the pair speaks of numbers, which stay.
 mirror-with-an-apart-pair : (bay_of (mirror split) 1 ≡ pos 1) × (mirror (mirror split) ≡ split)
 mirror-with-an-apart-pair = (refl, refl)
+
+-- ---- rings over pairs
+
+-- 0 before 1, 1 before 2, and 2 before 0: a ring, in whatever order the pairs stand
+ring_of_three : has_ring 3 (pair_of 0 1 ∷ pair_of 1 2 ∷ pair_of 2 0 ∷ []) ≡ true
+unfolding leads
+ring_of_three = refl
+
+ring_turned : has_ring 3 (pair_of 2 0 ∷ pair_of 0 1 ∷ pair_of 1 2 ∷ []) ≡ true
+unfolding leads
+ring_turned = refl
+
+-- with 0 before 2 in place of 2 before 0 there is none
+no_ring_of_three : has_ring 3 (pair_of 0 1 ∷ pair_of 1 2 ∷ pair_of 0 2 ∷ []) ≡ false
+unfolding leads
+no_ring_of_three = refl
+
+-- a task before itself
+ring_of_one : has_ring 2 (pair_of 1 1 ∷ []) ≡ true
+unfolding leads
+ring_of_one = refl

@@ -5,7 +5,7 @@ use qc_model::Instance;
 use qc_num::OutOfMemory;
 use qc_ship::{ShipError, read_ship};
 use qc_stow::{StowError, read_stow};
-use qc_tasks::tasks_of;
+use qc_tasks::{TasksError, tasks_of};
 use std::alloc::Global;
 
 /// The instance of a ship file and a stowage list.
@@ -20,5 +20,9 @@ pub fn instance_in(alloc: Global, ship: &str, list: &str) -> Result<Instance> {
         Err(StowError::Fault(_)) => bail!("the stowage list has a fault"),
         Err(StowError::OutOfMemory) => return Err(OutOfMemory.into()),
     };
-    Ok(tasks_of(alloc, &ship, &moves)?)
+    match tasks_of(alloc, &ship, &moves) {
+        Ok(inst) => Ok(inst),
+        Err(TasksError::Ring(_)) => bail!("the planner's own order has a ring"),
+        Err(TasksError::OutOfMemory) => Err(OutOfMemory.into()),
+    }
 }

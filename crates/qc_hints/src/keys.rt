@@ -3,7 +3,7 @@
 use qc_ship::Key;
 
 /// The keys of the ship.
-pub(crate) const SHIP_KEYS: [&str; 11] = [
+pub(crate) const SHIP_KEYS: [&str; 12] = [
     "hatches",
     "places",
     "margin",
@@ -14,6 +14,7 @@ pub(crate) const SHIP_KEYS: [&str; 11] = [
     "cover",
     "restows",
     "apart",
+    "before",
     "crane",
 ];
 

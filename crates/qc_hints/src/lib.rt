@@ -6,6 +6,7 @@ mod forms;
 mod keys;
 mod not_toml;
 mod notes;
+mod order;
 mod ordinals;
 mod ship;
 mod sorted;
@@ -16,6 +17,7 @@ mod wanted;
 
 pub use facts::counts_decimetres;
 pub use notes::say_notes;
+pub use order::say_idle_pair;
 pub use ship::say_ship;
 pub use stow::say_stow;
 pub use usage::say_usage;

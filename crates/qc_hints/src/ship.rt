@@ -3,6 +3,7 @@
 use crate::facts::{Facts, facts_of};
 use crate::keys::{is_known, is_of_crane};
 use crate::not_toml::say_not_toml;
+use crate::order::{say_no_task, say_ring, say_same};
 use crate::ordinals::ordinal;
 use crate::toml_lines::KeyLine;
 use qc_num::OutOfMemory;
@@ -34,6 +35,9 @@ fn say_fault(page: &mut Page, facts: &Facts<'_>, fault: ShipFault) {
         ShipKind::CraneOrder => say_crane_order(page, facts, fault.number),
         ShipKind::NameTwice => say_name_twice(page, facts, fault.number),
         ShipKind::Apart => say_apart(page, facts, fault.number),
+        ShipKind::Task => say_no_task(page, facts, fault.number),
+        ShipKind::Same => say_same(page, facts, fault.number),
+        ShipKind::Ring => say_ring(page, facts, fault.number),
     }
 }
 

@@ -5,7 +5,6 @@ use Rattle.qc_num.specs.Reading.{◌>>=◌}
 use Rattle.qc_num.proofs.ReadingLemmas.{bind_ok, same_ok}
 use Rattle.qc_io.specs.Outside.{Files, View, IsMissing, Rose}
 use Rattle.qc_model.specs.Instance.{InstanceView, with_turn}
-use Rattle.qc_tasks.specs.InstanceOf.{instance_of}
 use Rattle.qc_run.specs.declared.inputs.Input.{Input}
 use Rattle.qc_run.specs.declared.inputs.Input.TheVariants as input
 use Rattle.qc_run.specs.declared.refusal.Refusal.{Refusal}
@@ -14,7 +13,7 @@ use Rattle.qc_run.specs.declared.refusal.Stop.{Stop}
 use Rattle.qc_run.specs.declared.refusal.Stop.TheVariants as stop
 use Rattle.qc_run.specs.declared.reading.OwnJob.{OwnJob}
 use Rattle.qc_run.specs.Inputs.{Names, name_of}
-use Rattle.qc_run.specs.Due.{Contents, contents_in, instance_due, moves_due, own_due, own_job_due, ship_due, without}
+use Rattle.qc_run.specs.Due.{Contents, contents_in, instance_due, moves_due, order_due, own_due, own_job_due, ship_due, without}
 use Rattle.qc_run.specs.Steps.{ComesTo, Stops}
 
 some_and : {A : Type 0} {P : A → Type 0} (o : Option A) → IsSomeAnd o P → (a : A) × (o ≡ Some a) × P a
@@ -71,8 +70,9 @@ module _ {A : Type 0} (step : Contents → Result A Refusal) (names : Names) whe
 
 pub instance_turn : (contents : Contents) (inst : InstanceView) → instance_due contents ≡ Ok inst → inst.turn ≡ contents.turn
 instance_turn contents inst e =
-    let (ship, first, rest) = bind_ok (ship_due contents) (λ ship. moves_due ship contents >>= λ rows. Ok (with_turn (instance_of ship rows) contents.turn)) inst e in
-    let (rows, second, made) = bind_ok (moves_due ship contents) (λ rows. Ok (with_turn (instance_of ship rows) contents.turn)) inst rest in
+    let (ship, first, rest) = bind_ok (ship_due contents) (λ ship. moves_due ship contents >>= λ rows. order_due ship rows >>= λ inst. Ok (with_turn inst contents.turn)) inst e in
+    let (rows, second, next) = bind_ok (moves_due ship contents) (λ rows. order_due ship rows >>= λ inst. Ok (with_turn inst contents.turn)) inst rest in
+    let (one_way, third, made) = bind_ok (order_due ship rows) (λ inst. Ok (with_turn inst contents.turn)) inst next in
     sym (ap (λ (i : InstanceView). i.turn) (same_ok made))
 
 pub own_job_turn : (name : Option (List ℕ)) (contents : Contents) (job : OwnJob) → own_job_due name contents ≡ Ok job → job.inst.turn ≡ contents.turn

@@ -1,16 +1,18 @@
 -- Steps that read, one after the other: what is due of both.
-use Rattle.std.proofs.Common.{◌≡◌, ◌⊎◌, ℕ, List, Option, None, Some, Result, Ok, Err, refl, inl, inr, ap, subst, ◌∙◌, IfErr, IfSome, IsErrAnd, length, nat_le, arith}
+use Rattle.std.proofs.Common.{◌≡◌, ◌⊎◌, ℕ, List, Option, None, Some, Result, Ok, Err, refl, sym, inl, inr, ap, subst, ◌∙◌, IfErr, IfSome, IsErrAnd, IsSome, length, nat_le, arith}
 use Rattle.std.proofs.lemmas.Bool.{cond_both}
 use Rattle.qc_num.specs.Reading.{◌>>=◌, with_fault}
 use Rattle.qc_io.specs.Outside.{Files, View}
 use Rattle.qc_gantt.specs.Plan.{plan_in}
 use Rattle.qc_model.specs.declared.turn.Turn.{Turn}
-use Rattle.qc_model.specs.Instance.{with_turn}
+use Rattle.qc_model.specs.Instance.{InstanceView, with_turn}
 use Rattle.qc_tree.specs.declared.fault.TreeFault.{TreeFault}
 use Rattle.qc_ship.specs.Ship.{ShipView}
+use Rattle.qc_ship.specs.declared.fault.ShipFault.{ShipFault}
 use Rattle.qc_ship.specs.ShipFile.{ship_file}
 use Rattle.qc_stow.specs.Stow.{moves_in}
-use Rattle.qc_tasks.specs.InstanceOf.{instance_of}
+use Rattle.qc_stow.specs.declared.row.Row.{Row}
+use Rattle.qc_tasks.specs.Rings.{tasks_due}
 use Rattle.qc_run.specs.declared.inputs.Input.{Input}
 use Rattle.qc_run.specs.declared.inputs.Input.TheVariants as input
 use Rattle.qc_run.specs.declared.refusal.Refusal.{Refusal}
@@ -18,8 +20,11 @@ use Rattle.qc_run.specs.declared.refusal.Refusal.TheVariants as refusal
 use Rattle.qc_run.specs.declared.refusal.Stop.{Stop}
 use Rattle.qc_run.specs.declared.refusal.Stop.TheVariants as stop
 use Rattle.qc_run.specs.Inputs.{Names}
-use Rattle.qc_run.specs.Due.{Contents, without, file_limit, input_due, instance_due, job_due, moves_due, contents_in, schedule_due, ship_due, within_limit}
-use Rattle.qc_run.specs.Steps.{ComesTo, IsStep, Stops}
+use Rattle.qc_ship.specs.Keys.{fault}
+use Rattle.qc_ship.specs.declared.fault.Key.TheVariants as key
+use Rattle.qc_ship.specs.declared.fault.ShipKind.TheVariants as kind
+use Rattle.qc_run.specs.Due.{Contents, without, file_limit, input_due, instance_due, job_due, moves_due, order_due, contents_in, schedule_due, ship_due, within_limit}
+use Rattle.qc_run.specs.Steps.{ComesTo, IsDue, IsStep, Stops}
 use Rattle.qc_run.proofs.DueLemmas.{stops_from}
 
 -- without a file that it reads a step finds it unread, and without another it comes to the same
@@ -137,6 +142,42 @@ module _ {A B : Type 0} (step : Contents → Result A Refusal) (next : A → Con
     read_faults = first.read_faults;
   })
 
+  -- a step that came through, and then a refusal of the ship file that is due of what was read
+  pub step_ship : {before after : View} {x : A} {out : Result B Stop} → IsStep step names before after (Ok x) → IsSome names.ship → (why : ShipFault)
+      → ((held : Files) → next x (contents_in held names) ≡ Err (refusal.BadShip why)) → IsErrAnd out (λ e. e ≡ stop.Refused (refusal.BadShip why))
+      → IsStep (λ contents. step contents >>= λ a. next a contents) names before after out
+  step_ship {out = Ok y} first named why due handed = absurd handed
+  step_ship {before = before} {x = x} {out = Err e} first named why due handed = rw handed (record {
+    ok = tt;
+    err = (first.ok.0, comes_then before.files x (Err (refusal.BadShip why)) first.ok.1 (everywhere before.files));
+    may = named;
+    files = first.files;
+    made = first.made;
+    faults = first.faults;
+    read_faults = first.read_faults;
+  }) where
+    everywhere : (files : Option Files) → ComesTo (next x) names files (Err (refusal.BadShip why))
+    everywhere None = tt
+    everywhere (Some held) = due held
+
+-- the order of a ship's tasks is refused for a fault of the ship file, or memory was wanting
+module _ {B : Type 0} (ship : ShipView) (rows : List Row) (next : List Row → InstanceView → Contents → Result B Refusal) (names : Names) where
+  pub order_stops : {before after : View} {out : Result B Stop} (why : Stop) → IsStep (moves_due ship) names before after (Ok rows) → IsSome names.ship
+      → IsDue (order_due ship rows) (Err why) → IsErrAnd out (λ e. e ≡ why)
+      → IsStep (λ contents. moves_due ship contents >>= λ rows. order_due ship rows >>= λ inst. next rows inst contents) names before after out
+  order_stops stop.OutOfMemory first named due handed = step_starved (moves_due ship) (λ rows contents. order_due ship rows >>= λ inst. next rows inst contents) names first handed
+  order_stops {before = before} {after = after} {out = out} (stop.Refused why) first named due handed = by (tasks_due ship rows) refl
+    where
+      by : (r : Result InstanceView ℕ) → tasks_due ship rows ≡ r → IsStep (λ contents. moves_due ship contents >>= λ rows. order_due ship rows >>= λ inst. next rows inst contents) names before after out
+      by (Ok inst) is = absurd (cc (sym due ∙ ap (with_fault (λ k. refusal.BadShip (fault kind.Ring key.Before k))) is))
+      by (Err k) is =
+          let ring = fault kind.Ring key.Before k in
+          let refused : order_due ship rows ≡ Err (refusal.BadShip ring) = ap (with_fault (λ k. refusal.BadShip (fault kind.Ring key.Before k))) is in
+          let same : why ≡ refusal.BadShip ring = cc (sym due ∙ refused) in
+          step_ship (moves_due ship) (λ rows contents. order_due ship rows >>= λ inst. next rows inst contents) names first named ring
+          (λ held. ap (λ (r : Result InstanceView Refusal). r >>= λ inst. next rows inst (contents_in held names)) refused)
+          (subst (λ (w : Refusal). IsErrAnd out (λ e. e ≡ stop.Refused w)) same handed)
+
 -- ---- each step is steady
 
 input_steady : (read : Input) → Steady (input_due read)
@@ -178,9 +219,9 @@ moves_steady ship = then_steady (input_due input.Stow) (λ bytes _. with_fault r
 
 pub instance_steady : Steady instance_due
 instance_steady =
-    then_steady ship_due (λ ship contents. moves_due ship contents >>= λ rows. Ok (with_turn (instance_of ship rows) contents.turn)) ship_steady
-    (λ ship. then_steady (moves_due ship) (λ rows contents. Ok (with_turn (instance_of ship rows) contents.turn)) (moves_steady ship)
-    (λ rows file contents. inl (ap (λ (turn : Turn). Ok (with_turn (instance_of ship rows) turn)) (same_turn file contents))))
+    then_steady ship_due (λ ship contents. moves_due ship contents >>= λ rows. order_due ship rows >>= λ inst. Ok (with_turn inst contents.turn)) ship_steady
+    (λ ship. then_steady (moves_due ship) (λ rows contents. order_due ship rows >>= λ inst. Ok (with_turn inst contents.turn)) (moves_steady ship)
+    (λ rows file contents. inl (ap (λ (turn : Turn). order_due ship rows >>= λ inst. Ok (with_turn inst turn)) (same_turn file contents))))
 
 -- ---- no fault of a tree or of a log comes of the other files
 
@@ -205,13 +246,14 @@ then_early (Err e) next first second = first
 
 pub instance_early : (contents : Contents) → IfErr (instance_due contents) IsEarly
 instance_early contents =
-    then_early (ship_due contents) (λ ship. moves_due ship contents >>= λ rows. Ok (with_turn (instance_of ship rows) contents.turn))
+    then_early (ship_due contents) (λ ship. moves_due ship contents >>= λ rows. order_due ship rows >>= λ inst. Ok (with_turn inst contents.turn))
     (then_early (input_due input.Ship contents) (λ bytes. with_fault refusal.BadShip (ship_file bytes)) (input_early input.Ship contents.ship)
     (λ bytes. fault_early refusal.BadShip (λ _. tt) (ship_file bytes)))
-    (λ ship. then_early (moves_due ship contents) (λ rows. Ok (with_turn (instance_of ship rows) contents.turn))
+    (λ ship. then_early (moves_due ship contents) (λ rows. order_due ship rows >>= λ inst. Ok (with_turn inst contents.turn))
     (then_early (input_due input.Stow contents) (λ bytes. with_fault refusal.BadStow (moves_in ship bytes)) (input_early input.Stow contents.stow)
     (λ bytes. fault_early refusal.BadStow (λ _. tt) (moves_in ship bytes)))
-    (λ rows. tt))
+    (λ rows. then_early (order_due ship rows) (λ inst. Ok (with_turn inst contents.turn))
+    (fault_early (λ k. refusal.BadShip (fault kind.Ring key.Before k)) (λ _. tt) (tasks_due ship rows)) (λ inst. tt)))
 
 pub job_early : (contents : Contents) → IfErr (job_due contents) IsEarly
 job_early contents =

@@ -8,9 +8,12 @@ use Rattle.qc_model.specs.declared.schedule.Slot.{Slot}
 use Rattle.qc_model.specs.Instance.{InstanceView, with_turn}
 use Rattle.qc_ship.specs.Ship.{ShipView}
 use Rattle.qc_ship.specs.ShipFile.{ship_file}
+use Rattle.qc_ship.specs.Keys.{fault}
+use Rattle.qc_ship.specs.declared.fault.Key.TheVariants as key
+use Rattle.qc_ship.specs.declared.fault.ShipKind.TheVariants as kind
 use Rattle.qc_stow.specs.declared.row.Row.{Row}
 use Rattle.qc_stow.specs.Stow.{moves_in}
-use Rattle.qc_tasks.specs.InstanceOf.{instance_of}
+use Rattle.qc_tasks.specs.Rings.{tasks_due}
 use Rattle.qc_watch.specs.declared.report.Report.{Report}
 use Rattle.qc_watch.specs.Log.{reports_in}
 use Rattle.qc_run.specs.declared.inputs.Input.{Input}
@@ -73,13 +76,19 @@ moves_due ship contents = do
   bytes ← input_due input.Stow contents
   with_fault refusal.BadStow (moves_in ship bytes)
 
+-- the instance of a ship and its moves; a ring in the planner's own order is a refusal of the ship file
+abbrev pub order_due : ShipView → List Row → Result InstanceView Refusal
+order_due ship rows =
+    with_fault (λ k. refusal.BadShip (fault kind.Ring key.Before k)) (tasks_due ship rows)
+
 -- the instance of the files with the turn that is asked about, or the first refusal: first of the ship file, then of the
--- stowage list
+-- stowage list, then of the order that both come to
 abbrev pub instance_due : Contents → Result InstanceView Refusal
 instance_due contents = do
   ship ← ship_due contents
   rows ← moves_due ship contents
-  Ok (with_turn (instance_of ship rows) contents.turn)
+  inst ← order_due ship rows
+  Ok (with_turn inst contents.turn)
 
 -- the schedule of the plan in a file, or the first refusal of that file
 abbrev pub schedule_due : Input → InstanceView → Contents → Result (List Slot) Refusal

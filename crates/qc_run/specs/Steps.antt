@@ -35,6 +35,12 @@ abbrev pub Stops :
 Stops step names before after (stop.Refused why) = IsRefused step names before after why
 Stops step names before after stop.OutOfMemory = after.read_faults ≡ before.read_faults
 
+-- what comes of values that were read is what is due, or memory was wanting
+abbrev pub IsDue : {A : Type 0} → Result A Refusal → Result A Stop → Type 0
+IsDue due (Ok value) = due ≡ Ok value
+IsDue due (Err (stop.Refused why)) = due ≡ Err why
+IsDue due (Err stop.OutOfMemory) = Unit {0}
+
 -- a refusal of a file comes only of one that the command reads, and TooLarge of one that it reads whole
 abbrev pub MayRefuse : Names → Refusal → Type 0
 MayRefuse names refusal.Usage = ⊥

@@ -23,8 +23,8 @@ pub use broken::{Broken, broken_of, report_broken};
 pub use ended::{Cause, Ended, Until, Wait};
 pub use inputs::{Input, Inputs, PlanAsked};
 pub use reading::{
-    Job, OwnJob, read_input, read_instance, read_job, read_moves, read_own_job, read_schedule,
-    read_ship_file,
+    Job, OwnJob, instance_of, read_input, read_instance, read_job, read_moves, read_own_job,
+    read_schedule, read_ship_file,
 };
 pub use refusal::{LogFault, Refusal, Stop};
 pub use report::{direction_text, report_stop, report_text};

@@ -3,18 +3,19 @@ ghost use Rattle.std.specs.Prelude.{◌≡◌, ◌⊎◌, IfOk, IfSome, All, IsS
 ghost use Rattle.qc_model.specs.Judge.{IsJudgeable};
 ghost use Rattle.qc_ship.specs.Ship.{place_of_bay};
 ghost use Rattle.qc_run.specs.Inputs.{IsWhole, name_of, names_of};
-ghost use Rattle.qc_run.specs.Due.{input_due, ship_due, moves_due, instance_due, schedule_due, job_due, own_due, own_job_due};
-ghost use Rattle.qc_run.specs.Steps.{IsStep};
+ghost use Rattle.qc_run.specs.Due.{input_due, ship_due, moves_due, instance_due, schedule_due, job_due, order_due, own_due, own_job_due};
+ghost use Rattle.qc_run.specs.Steps.{IsDue, IsStep};
+ghost use Rattle.qc_tasks.specs.InstanceOf.{instance_of};
 
 use crate::inputs::{Input, Inputs};
 use crate::refusal::{Refusal, Stop};
 use qc_gantt::{PlanError, read_plan};
 use qc_io::{ReadAll, Shelf, read_all};
 use qc_model::{Instance, Schedule};
-use qc_num::{Bytes, OutOfMemory};
-use qc_ship::{Ship, ShipError, read_ship};
+use qc_num::Bytes;
+use qc_ship::{Key, Ship, ShipError, ShipFault, ShipKind, read_ship};
 use qc_stow::{Moves, StowError, read_stow};
-use qc_tasks::tasks_of;
+use qc_tasks::{TasksError, tasks_of};
 use std::alloc::Global;
 
 /// The greatest length of a ship file, of a stowage list, of a plan's file and of a log, in bytes.
@@ -80,6 +81,22 @@ pub fn read_moves<S: Shelf>(
     }
 }
 
+/// The instance of a ship and its moves, or why there is none: the planner's own order has a ring.
+pub fn instance_of(alloc: Global, ship: &Ship, moves: &Moves) -> Result<Instance, Stop>
+    ensures instance { IfOk result (λ inst. inst ≡ instance_of ship.now moves.now) }
+    ensures due { IsDue (order_due ship.now moves.now) result }
+{
+    match tasks_of(alloc, ship, moves) {
+        Ok(inst) => Ok(inst),
+        Err(TasksError::Ring(number)) => Err(Stop::Refused(Refusal::BadShip(ShipFault {
+            kind: ShipKind::Ring,
+            key: Key::Before,
+            number,
+        }))),
+        Err(TasksError::OutOfMemory) => Err(Stop::OutOfMemory),
+    }
+}
+
 /// The instance of the ship file and the stowage list, with the turn that is asked about, or why there is none.
 pub fn read_instance<S: Shelf>(
     alloc: Global,
@@ -93,7 +110,8 @@ pub fn read_instance<S: Shelf>(
 {
     let ship = read_ship_file(alloc, inputs, shelf)?;
     let moves = read_moves(alloc, inputs, &ship, shelf)?;
-    Ok(tasks_of(alloc, &ship, &moves)?.with_turn(inputs.turn))
+    let inst = instance_of(alloc, &ship, &moves)?;
+    Ok(inst.with_turn(inputs.turn))
 }
 
 /// An instance and a schedule for it.

@@ -2,7 +2,7 @@
 use Rattle.std.proofs.Common.{◌≡◌, ℕ, ◌+◌, ◌<◌, ◌≤◌, ◌&&◌, Bool, true, false, List, length, get_or, refl, sym, ap, subst, inl, inr, arith, All, Contains, IsSome, nat_eq}
 use Rattle.std.specs.List.{flat_map, zip, AllByRecursion as Each}
 use Rattle.std.proofs.Math.Nat.{mul-le-mul_right}
-use Rattle.std.proofs.lemmas.Bool.{and_from, cases_Bool, cases_order, le-leb, leb-true, or_right}
+use Rattle.std.proofs.lemmas.Bool.{and_from, cases_Bool, cases_order, le-leb, leb-true, or_left, or_right}
 use Rattle.std.proofs.lemmas.List.Elements.{All-from_recursion, Contains-get_or}
 use Rattle.std.proofs.lemmas.List.Folds.{list_any_at}
 use Rattle.std.proofs.lemmas.Slice.Eq.{bytes_eq-Decides}
@@ -11,7 +11,7 @@ use Rattle.qc_model.specs.declared.schedule.Slot.{Slot}
 use Rattle.qc_model.specs.declared.task.Phase.{Phase}
 use Rattle.qc_model.specs.declared.task.Phase.TheVariants.{DeckOut, HoldOut, HoldIn, DeckIn}
 use Rattle.qc_model.specs.declared.task.Task.{Task}
-use Rattle.qc_model.specs.Instance.{IsBefore, Valid, no_task, task}
+use Rattle.qc_model.specs.Instance.{IsBefore, no_task, task}
 use Rattle.qc_model.specs.Rules.{Feasible, end_of, start_of}
 use Rattle.qc_model.specs.Tasks.{phase_rank}
 use Rattle.qc_ship.specs.Ship.{IsShip, ShipView, place_of_bay}
@@ -19,10 +19,10 @@ use Rattle.qc_stow.specs.Moves.{AreMoves, is_discharge, is_load}
 use Rattle.qc_stow.specs.declared.row.Move.{Move}
 use Rattle.qc_stow.specs.declared.row.Move.TheVariants.{Discharge, Load}
 use Rattle.qc_stow.specs.declared.row.Row.{Row}
-use Rattle.qc_tasks.specs.InstanceOf.{brings_back, discharges, instance_of, is_before, is_earlier_phase, is_restow, moves_at, phase_with, phases, tasks_at, tasks_of, ticks_in}
+use Rattle.qc_tasks.specs.InstanceOf.{brings_back, discharges, instance_of, is_asked, is_before, is_earlier_phase, is_restow, moves_at, phase_with, phases, tasks_at, tasks_of, ticks_in}
 use Rattle.qc_tasks.proofs.Lists.{each_flat_map, each_from}
 use Rattle.qc_tasks.proofs.PairFacts.{pairs_have}
-use Rattle.qc_tasks.proofs.ValidInstance.{valid_instance}
+use Rattle.qc_tasks.proofs.ValidInstance.{phases_before, valid_tasks}
 use Rattle.qc_sheet.specs.Kept.{BeginBoth, Begins, IsDischarge, IsLoad, IsOver, IsRestow, IsWorkable, phase_of}
 use Rattle.qc_sheet.specs.Order.{AreOrders, cell_at, is_over, no_row, order_of, row_at}
 use Rattle.qc_sheet.specs.SheetText.{WorkView, move_ticks, tick_at}
@@ -108,9 +108,6 @@ module _ (ship : ShipView) (is : IsShip ship) (rows : List Row) (moves : AreMove
   abbrev task_of : ℕ → Task
   task_of j = task w.inst j
 
-  valid : Valid w.inst
-  valid = valid_instance ship is rows moves.count
-
   mine : (n j t : ℕ) → Begins w n j t → IsMove rows (task_of j) n
   mine n j t b = in_order rows (task_of j) (order_of orders j) (are.each j b.task_low) n
       (subst (λ m. Contains (order_of orders j) m) b.move_is (Contains-get_or (order_of orders j) b.place 0 b.place_low))
@@ -125,7 +122,7 @@ module _ (ship : ShipView) (is : IsShip ship) (rows : List Row) (moves : AreMove
   -- a move of an earlier phase of the hatch begins earlier
   earlier_task : (m n i j s t : ℕ) → Begins w m i s → Begins w n j t → (task_of i).hatch ≡ (task_of j).hatch → i < j → s < t
   earlier_task m n i j s t b c hatch lt =
-      let before = feasible.before i j b.task_low c.task_low (valid.before.phases i j lt c.task_low hatch) in
+      let before = feasible.before i j b.task_low c.task_low (phases_before ship is rows i j lt c.task_low hatch) in
       omega (arith, (within m i s b).1, (within n j t c).0, before, some_ticks ship is (task_of i).phase)
 
   cell : (n j t : ℕ) → Begins w n j t → IsCell (cell_at rows n)
@@ -143,7 +140,7 @@ module _ (ship : ShipView) (is : IsShip ship) (rows : List Row) (moves : AreMove
 
   -- the later of two tasks of a hatch has the higher phase
   later_phase : (i j : ℕ) → i < j → j < length w.inst.tasks → (task_of i).hatch ≡ (task_of j).hatch → phase_rank (task_of i).phase < phase_rank (task_of j).phase
-  later_phase i j lt low hatch = let rank = valid.tasks.sorted i j lt low in omega (arith, rank, hatch)
+  later_phase i j lt low hatch = let rank = (valid_tasks ship is rows moves.count).sorted i j lt low in omega (arith, rank, hatch)
 
   rank : (n j t : ℕ) → Begins w n j t → phase_rank (phase_with (row_at rows n).kind (is_on_deck (cell_at rows n))) ≡ phase_rank (task_of j).phase
   rank n j t b = rank_of rows (task_of j) n (mine n j t b)
@@ -197,8 +194,8 @@ module _ (ship : ShipView) (is : IsShip ship) (rows : List Row) (moves : AreMove
       let some = list_any_at (discharges (task_of i) id) rows m no_row im.low off in
       let back : brings_back rows (task_of i) (task_of j) (row_at rows n) ≡ true = and_from _ _ (and_from _ _ is'.back some) in'.mine in
       let restow : is_restow (tasks_of ship rows) rows i j ≡ true = list_any_at (brings_back rows (task_of i) (task_of j)) rows n no_row in'.low back in
-      pairs_have (length (tasks_of ship rows)) (is_before (λ i j. ship.ordered && is_restow (tasks_of ship rows) rows i j) (tasks_of ship rows)) i j b.task_low c.task_low
-      (or_right (is_earlier_phase (task_of i) (task_of j)) _ (and_from _ _ ordered restow))
+      pairs_have (length (tasks_of ship rows)) (is_before (is_asked ship.ordered ship.before rows (tasks_of ship rows)) (tasks_of ship rows)) i j b.task_low c.task_low
+      (or_right (is_earlier_phase (task_of i) (task_of j)) _ (or_left (ship.ordered && is_restow (tasks_of ship rows) rows i j) _ (and_from _ _ ordered restow)))
 
   restows : ship.ordered ≡ true → (m n i j s t : ℕ) → Begins w m i s → Begins w n j t → IsRestow w m n → s < t
   restows ordered m n i j s t b c is' =

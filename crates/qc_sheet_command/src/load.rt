@@ -7,10 +7,9 @@ ghost use Rattle.qc_sheet_command.specs.Listed.{IsCargo, IsLoad};
 
 use qc_io::Shelf;
 use qc_model::{Instance, Schedule};
-use qc_run::{Input, Inputs, Stop, read_moves, read_schedule, read_ship_file};
+use qc_run::{Input, Inputs, Stop, instance_of, read_moves, read_schedule, read_ship_file};
 use qc_ship::Ship;
 use qc_stow::Moves;
-use qc_tasks::tasks_of;
 use std::alloc::Global;
 
 /// A ship, its moves, and the instance of both.
@@ -47,7 +46,7 @@ pub fn read_cargo<S: Shelf>(
 {
     let ship = read_ship_file(alloc, inputs, shelf)?;
     let moves = read_moves(alloc, inputs, &ship, shelf)?;
-    let inst = tasks_of(alloc, &ship, &moves)?;
+    let inst = instance_of(alloc, &ship, &moves)?;
     Ok(Cargo { ship, moves, inst })
 }
 

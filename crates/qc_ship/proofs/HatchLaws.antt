@@ -117,10 +117,10 @@ Places-from count ms places few e =
 abbrev pub IsPairOf : List ℕ → HatchPair → Type 0
 IsPairOf hatches pair = Contains hatches pair.a × Contains hatches pair.b × (pair.a ≢ pair.b)
 
-not_equal : (a b : ℕ) → (a == b) ≡ false → a ≡ b → ⊥
+pub not_equal : (a b : ℕ) → (a == b) ≡ false → a ≡ b → ⊥
 not_equal a b differ equal = grind (arith, nat_tests)
 
-find-Contains : {A : Type 0} (test : A → Bool) (xs : List A) (x : A) → find test xs ≡ Some x → Contains xs x
+pub find-Contains : {A : Type 0} (test : A → Bool) (xs : List A) (x : A) → find test xs ≡ Some x → Contains xs x
 find-Contains test [] x e = cc
 find-Contains test (y ∷ ys) x e =
     elim (cases_Bool (test y)) [
@@ -128,7 +128,7 @@ find-Contains test (y ∷ ys) x e =
       | inr fails ↦ (let (k, within, here) = find-Contains test ys x (rw fails at e) in (suc k, omega arith, here))
     ]
 
-found : {A : Type 0} (o : Option A) (f : ShipFault) (a : A) → ◌≡◌ {A = Reading A} (ok_or o f) (Ok a) → o ≡ Some a
+pub found : {A : Type 0} (o : Option A) (f : ShipFault) (a : A) → ◌≡◌ {A = Reading A} (ok_or o f) (Ok a) → o ≡ Some a
 found None f a e = cc
 found (Some x) f a e = ap Some (same_ok e)
 

@@ -2,5 +2,6 @@ pub mod CraneLaws
 pub mod EachLemmas
 pub mod HatchLaws
 pub mod Items
+pub mod NameLaws
 pub mod ShipLaws
 pub mod TimesLaws

@@ -19,6 +19,7 @@ key_text key.HoldMove = codes "hold_move"
 key_text key.Cover = codes "cover"
 key_text key.Restows = codes "restows"
 key_text key.Apart = codes "apart"
+key_text key.Before = codes "before"
 key_text key.Crane = codes "crane"
 key_text key.Name = codes "name"
 key_text key.Ready = codes "ready"
@@ -36,6 +37,9 @@ kind_text kind.HatchOrder = codes "HatchOrder"
 kind_text kind.CraneOrder = codes "CraneOrder"
 kind_text kind.NameTwice = codes "NameTwice"
 kind_text kind.Apart = codes "Apart"
+kind_text kind.Task = codes "Task"
+kind_text kind.Same = codes "Same"
+kind_text kind.Ring = codes "Ring"
 
 -- this is wrong with the element of this number at this key; number 0 is the key itself
 abbrev pub fault : ShipKind → Key → ℕ → ShipFault

@@ -16,3 +16,7 @@ most_move_ticks = 10000
 -- the most pairs of hatches that aren't worked at the same time
 abbrev pub most_hatch_pairs : ℕ
 most_hatch_pairs = 100
+
+-- the most pairs of tasks of which the planner says that the first ends before the second starts
+abbrev pub most_name_pairs : ℕ
+most_name_pairs = 240

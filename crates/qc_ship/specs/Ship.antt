@@ -4,8 +4,9 @@ use Rattle.std.specs.List.{range_with_len}
 use Rattle.qc_model.specs.declared.crane.Crane.{Crane}
 use Rattle.qc_model.specs.Numbers.{most_cranes, most_gap_by_places, most_hatches, most_place, most_ready, most_travel_by_places}
 use Rattle.qc_model.specs.Numbers as by_bays
-use Rattle.qc_ship.specs.Numbers.{greatest_hatch, most_hatch_pairs, most_move_ticks}
+use Rattle.qc_ship.specs.Numbers.{greatest_hatch, most_hatch_pairs, most_move_ticks, most_name_pairs}
 use Rattle.qc_ship.specs.declared.ship.HatchPair.{HatchPair}
+use Rattle.qc_ship.specs.declared.ship.NamePair.{NamePair}
 
 -- what a ship file says; counts, gaps and ticks are naturals
 pub record ShipView : Type 0 where
@@ -25,6 +26,8 @@ pub record ShipView : Type 0 where
   -- whether a container that is discharged and loaded is discharged first
   pub ordered : Bool
   pub apart : List HatchPair
+  -- the planner's own order of tasks
+  pub before : List NamePair
   -- along the rail
   pub cranes : List Crane
 
@@ -89,6 +92,12 @@ pub record HasPairs (ship : ShipView) : Type 0 where
   pub hatches : All (λ pair. Contains ship.hatches pair.a × Contains ship.hatches pair.b
       × (pair.a ≢ pair.b)) ship.apart
 
+-- at most 240 pairs, each of two different tasks at hatches of the ship
+pub record HasOrder (ship : ShipView) : Type 0 where
+  pub count : length ship.before ≤ most_name_pairs
+  pub names : All (λ pair. Contains ship.hatches pair.first.hatch
+      × Contains ship.hatches pair.second.hatch × (pair.first ≢ pair.second)) ship.before
+
 -- 1 to 8 cranes with different names, each at least the gap behind the one before it, reaching from
 -- the place of a hatch to that of the same or a later one
 pub record HasCranes (ship : ShipView) : Type 0 where
@@ -107,4 +116,5 @@ pub record IsShip (ship : ShipView) : Type 0 where
   pub places : HasPlaces ship
   pub times : HasTimes ship
   pub apart : HasPairs ship
+  pub before : HasOrder ship
   pub cranes : HasCranes ship

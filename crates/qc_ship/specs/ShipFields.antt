@@ -15,5 +15,6 @@ view_of f = record {
   cover = f.cover;
   ordered = f.ordered;
   apart = f.apart.items;
+  before = f.before.items;
   cranes = f.cranes.items;
 }

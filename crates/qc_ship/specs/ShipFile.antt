@@ -1,21 +1,26 @@
 -- public: the ship file: the keys in their order, each with its checks; the first fault wins.
-use Rattle.std.specs.Prelude.{ℕ, ◌+◌, ◌-◌, ℤ, pos, ◌+ℤ◌, List, [], length, slice_index, Bool, true, false, ◌==◌, nat_lt, int_le, bytes_eq, find, if◌then◌else◌, Option, Some, None, Ok, Err, ok_or, is_some, codes}
+use Rattle.std.specs.Prelude.{ℕ, ◌+◌, ◌-◌, ℤ, pos, ◌+ℤ◌, List, [], length, slice_index, Bool, true, false, ◌&&◌, ◌==◌, ◌++◌, ◌∷◌, nat_lt, int_le, bytes_eq, decimal, find, if◌then◌else◌, Option, Some, None, Ok, Err, ok_or, option_map, is_some, codes}
 use Rattle.std.specs.Ordering.{int_eq}
 use Rattle.std.specs.List.{list_any, range_with_len}
-use Rattle.std.specs.Option.{option_map_or}
+use Rattle.std.specs.Option.{option_map_or, option_or}
 use Rattle.std.specs.Str.{is_utf8}
-use Rattle.toml.specs.Data.{Data, integer, array, table, no_items, item, Members, get_member}
+use Rattle.toml.specs.Data.{Data, integer, string, array, table, no_items, item, Members, get_member}
 use Rattle.toml.specs.Parse.{parse_document}
 use Rattle.qc_num.specs.Reading.{◌>>=◌, each}
 use Rattle.qc_model.specs.Names.{is_name}
 use Rattle.qc_model.specs.declared.crane.Crane.{Crane}
+use Rattle.qc_model.specs.declared.task.Phase.{Phase}
+use Rattle.qc_model.specs.declared.task.Phase.TheVariants.{DeckOut, HoldOut, HoldIn, DeckIn}
+use Rattle.qc_model.specs.Tasks.{phase_rank, phase_text}
 use Rattle.qc_model.specs.Numbers.{most_cranes, most_gap_by_places, most_hatches, most_place, most_ready}
-use Rattle.qc_ship.specs.Numbers.{greatest_hatch, most_hatch_pairs, most_margin, most_move_ticks}
+use Rattle.qc_ship.specs.Numbers.{greatest_hatch, most_hatch_pairs, most_margin, most_move_ticks, most_name_pairs}
 use Rattle.qc_ship.specs.Keys.{key_text, fault}
 use Rattle.qc_ship.specs.Ship.{ShipView, lowest_bay, highest_bay, most_travel, least_start, greatest_start}
 use Rattle.qc_ship.specs.ShipValues.{Reading, required, integer_in, number_in, number_at, number_or, array_in, text_in, next_number, last}
 use Rattle.qc_ship.specs.declared.ship.Times.{Times}
 use Rattle.qc_ship.specs.declared.ship.HatchPair.{HatchPair}
+use Rattle.qc_ship.specs.declared.ship.NamePair.{NamePair}
+use Rattle.qc_ship.specs.declared.ship.TaskName.{TaskName}
 use Rattle.qc_ship.specs.declared.fault.Key.TheVariants as key
 use Rattle.qc_ship.specs.declared.fault.ShipKind.TheVariants as kind
 
@@ -100,6 +105,47 @@ pairs_in hatches d = do
 abbrev pub apart_at : List ℕ → Members → Reading (List HatchPair)
 apart_at hatches ms = option_map_or (pairs_in hatches) (get_member (key_text key.Apart) ms) (Ok [])
 
+-- an array of two texts, and nothing else
+abbrev pub two_texts : Data → Option (List ℕ × List ℕ)
+two_texts (array (item (string a) (item (string b) no_items))) = Some (a, b)
+two_texts _ = None
+
+-- the name of a task: its hatch, '-' and its phase
+abbrev pub name_text : ℕ → Phase → List ℕ
+name_text hatch phase = decimal hatch ++ 45 ∷ phase_text phase
+
+-- the task of this phase that a text names, of a hatch of the ship
+abbrev pub name_in_phase : List ℕ → List ℕ → Phase → Option TaskName
+name_in_phase hatches text phase = option_map (λ hatch. record { hatch = hatch; phase = phase })
+    (find (λ hatch. bytes_eq (name_text hatch phase) text) hatches)
+
+-- the task that a text names, of a hatch of the ship and of any phase
+abbrev pub name_in : List ℕ → List ℕ → Option TaskName
+name_in hatches text = option_or (option_or (option_or (name_in_phase hatches text DeckOut)
+    (name_in_phase hatches text HoldOut)) (name_in_phase hatches text HoldIn))
+    (name_in_phase hatches text DeckIn)
+
+abbrev pub same_name : TaskName → TaskName → Bool
+same_name a b = (a.hatch == b.hatch) && (phase_rank a.phase == phase_rank b.phase)
+
+-- the names of two different tasks of the ship
+abbrev pub names_in : List ℕ → List NamePair → Data → Reading NamePair
+names_in hatches before d = do
+  texts ← ok_or (two_texts d) (fault kind.WrongKind key.Before (next_number before))
+  first ← ok_or (name_in hatches texts.0) (fault kind.Task key.Before (next_number before))
+  second ← ok_or (name_in hatches texts.1) (fault kind.Task key.Before (next_number before))
+  if same_name first second then Err (fault kind.Same key.Before (next_number before))
+      else Ok (record { first = first; second = second })
+
+abbrev pub order_in : List ℕ → Data → Reading (List NamePair)
+order_in hatches d = do
+  ds ← array_in key.Before 0 most_name_pairs d
+  each (names_in hatches) [] ds
+
+-- the planner's own order of tasks
+abbrev pub before_at : List ℕ → Members → Reading (List NamePair)
+before_at hatches ms = option_map_or (order_in hatches) (get_member (key_text key.Before) ms) (Ok [])
+
 -- a crane's own table
 abbrev pub table_in : ℕ → Data → Reading Members
 table_in number (table ms) = Ok ms
@@ -172,8 +218,9 @@ times_at ms = do
   })
 
 -- the ship of these parts
-abbrev pub ship_with : Bool → List ℕ → List ℕ → Times → List HatchPair → List Crane → ShipView
-ship_with in_decimetres hatches places times apart cranes = record {
+abbrev pub ship_with :
+    Bool → List ℕ → List ℕ → Times → List HatchPair → List NamePair → List Crane → ShipView
+ship_with in_decimetres hatches places times apart before cranes = record {
   hatches = hatches;
   places = places;
   in_decimetres = in_decimetres;
@@ -184,6 +231,7 @@ ship_with in_decimetres hatches places times apart cranes = record {
   cover = times.cover;
   ordered = times.ordered;
   apart = apart;
+  before = before;
   cranes = cranes;
 }
 
@@ -194,8 +242,9 @@ ship_of ms = do
   places ← places_at (length hatches) ms
   times ← times_at ms
   apart ← apart_at hatches ms
+  before ← before_at hatches ms
   cranes ← cranes_at (gives_places ms) times.gap places ms
-  Ok (ship_with (gives_places ms) hatches places times apart cranes)
+  Ok (ship_with (gives_places ms) hatches places times apart before cranes)
 
 -- the table of a TOML text; bytes that aren't UTF-8 are no such text
 abbrev pub table_of : List ℕ → Option Members

@@ -25,6 +25,12 @@ pub enum ShipKind {
     NameTwice,
     /// A pair doesn't name two different hatches of the ship.
     Apart,
+    /// A text is no name of a task of the ship: a hatch in plain decimal, `-` and a phase.
+    Task,
+    /// Both names of a pair are equal.
+    Same,
+    /// With this pair some task would have to end before it starts. It takes the stowage list to tell.
+    Ring,
 }
 
 impl ShipKind {
@@ -42,6 +48,9 @@ impl ShipKind {
             ShipKind::CraneOrder => "CraneOrder",
             ShipKind::NameTwice => "NameTwice",
             ShipKind::Apart => "Apart",
+            ShipKind::Task => "Task",
+            ShipKind::Same => "Same",
+            ShipKind::Ring => "Ring",
         }
     }
 }
@@ -61,6 +70,7 @@ pub enum Key {
     Cover,
     Restows,
     Apart,
+    Before,
     Crane,
     Name,
     Ready,
@@ -87,6 +97,7 @@ impl Key {
             Key::Cover => "cover",
             Key::Restows => "restows",
             Key::Apart => "apart",
+            Key::Before => "before",
             Key::Crane => "crane",
             Key::Name => "name",
             Key::Ready => "ready",

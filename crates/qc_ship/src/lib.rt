@@ -12,6 +12,7 @@ mod digits;
 mod fault;
 mod hatches;
 mod limits;
+mod names;
 mod pairs;
 mod reader;
 mod ship;
@@ -19,6 +20,6 @@ mod values;
 
 pub use cell::{Cell, CellFault, CellText};
 pub use fault::{Key, ShipError, ShipFault, ShipKind};
-pub use limits::{GREATEST_HATCH, MOST_HATCH_PAIRS, MOST_MARGIN, MOST_MOVE_TICKS};
+pub use limits::{GREATEST_HATCH, MOST_HATCH_PAIRS, MOST_MARGIN, MOST_MOVE_TICKS, MOST_NAME_PAIRS};
 pub use reader::read_ship;
-pub use ship::{HatchPair, Ship, takes};
+pub use ship::{HatchPair, NamePair, Ship, TaskName, takes};

@@ -11,3 +11,6 @@ pub const MOST_MOVE_TICKS: u32 = 10_000;
 
 /// The most pairs of hatches that aren't worked at the same time.
 pub const MOST_HATCH_PAIRS: usize = 100;
+
+/// The most pairs of tasks of which the planner says that the first ends before the second starts.
+pub const MOST_NAME_PAIRS: usize = 240;

@@ -5,7 +5,7 @@ ghost use Rattle.qc_ship.specs.ShipFile.{ship_with};
 ghost use Rattle.qc_ship.specs.Ship.{ShipView, IsShip, takes, place_of_bay, greatest_place};
 ghost use Rattle.qc_ship.specs.ShipFields.{view_of};
 
-use qc_model::Crane;
+use qc_model::{Crane, Phase};
 use qc_num::{Bay, Tick};
 use std::marker::Model;
 
@@ -14,6 +14,20 @@ use std::marker::Model;
 pub struct HatchPair {
     pub a: u16,
     pub b: u16,
+}
+
+/// A task by its name: a hatch, by its number on board, and a phase. Whether it has moves hangs on the list.
+#[derive(Clone, Copy, PartialEq, Eq)]
+pub struct TaskName {
+    pub hatch: u16,
+    pub phase: Phase,
+}
+
+/// Two different tasks, of which the first ends before the second starts.
+#[derive(Clone, Copy, PartialEq, Eq)]
+pub struct NamePair {
+    pub first: TaskName,
+    pub second: TaskName,
 }
 
 /// What a ship file says of the ship and its cranes.
@@ -29,6 +43,7 @@ pub struct Ship {
     cover: Tick,
     ordered: bool,
     apart: Vec<HatchPair>,
+    before: Vec<NamePair>,
     cranes: Vec<Crane>,
 }
 
@@ -59,10 +74,13 @@ impl Ship {
         in_decimetres: bool,
         times: Times,
         apart: Vec<HatchPair>,
+        before: Vec<NamePair>,
         cranes: Vec<Crane>,
     ) -> Ship
-        requires { IsShip (ship_with in_decimetres hatches.items places.items times apart.items cranes.items) }
-        ensures { result ≡ ship_with in_decimetres hatches.items places.items times apart.items cranes.items }
+        requires { IsShip (ship_with in_decimetres hatches.items places.items times
+            apart.items before.items cranes.items) }
+        ensures { result ≡ ship_with in_decimetres hatches.items places.items times
+            apart.items before.items cranes.items }
     {
         Ship {
             hatches,
@@ -75,6 +93,7 @@ impl Ship {
             cover: times.cover,
             ordered: times.ordered,
             apart,
+            before,
             cranes,
         }
     }
@@ -162,6 +181,14 @@ impl Ship {
         ensures ship { IsShip self.now }
     {
         self.apart.as_slice()
+    }
+
+    /// The planner's own order, as written: the first task of a pair ends before the second starts.
+    pub fn before(&self) -> &[NamePair]
+        ensures before { result.now ≡ self.now.before }
+        ensures ship { IsShip self.now }
+    {
+        self.before.as_slice()
     }
 
     /// The cranes along the rail. The reach of each goes from the place of its first hatch to that

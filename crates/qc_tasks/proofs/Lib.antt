@@ -4,4 +4,8 @@ pub mod Lists
 pub mod TaskFacts
 pub mod WorkFacts
 pub mod PairFacts
+pub mod RingLemmas
+pub mod MarkLemmas
+pub mod EntryLemmas
+pub mod OrderLemmas
 pub mod ValidInstance

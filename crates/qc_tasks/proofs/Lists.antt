@@ -1,7 +1,7 @@
 -- What holds of each element, and of each element and every later one, by recursion on the list.
 use Rattle.std.proofs.Common.{◌≡◌, ◌⊎◌, ℕ, zero, suc, ◌+◌, ◌*◌, ◌<◌, ◌≤◌, ◌++◌, ◌∷◌, [], Bool, true, false, cond, List, map, refl, sym, ap, inl, inr, ◌∙◌, arith, AllPairs, Contains, count_by, sum_by}
-use Rattle.std.specs.List.{filter, flat_map, range_with_len, zip, AllByRecursion as Each}
-use Rattle.std.proofs.lemmas.Bool.{cases_Bool}
+use Rattle.std.specs.List.{filter, flat_map, list_any, range_with_len, zip, AllByRecursion as Each}
+use Rattle.std.proofs.lemmas.Bool.{cases_Bool, or_cases}
 use Rattle.std.proofs.lemmas.List.Elements.{All-from_recursion, recursion_from_All, Contains-append_left, Contains-append_right}
 use Rattle.std.proofs.lemmas.List.Kept.{AllPairs-cons}
 use Rattle.std.proofs.lemmas.List.Sums.{sum_by-cons, sum_by-append}
@@ -89,6 +89,17 @@ pub pairs_from_index : {X : Type 0} (R : X → X → Type 0) (xs : List X) → A
 pairs_from_index R [] p = tt
 pairs_from_index R (x ∷ xs) p =
     (recursion_from_All (R x) xs (λ k d h. p 0 (suc k) d (omega arith) (omega arith)), pairs_from_index R xs (λ i j d h k. p (suc i) (suc j) d (omega arith) (omega arith)))
+
+-- an element that passes, and what holds of each
+pub any_each : {X : Type 0} (P : X → Type 0) (test : X → Bool) (xs : List X) → Each P xs → list_any test xs ≡ true → (x : X) × (P x × (test x ≡ true))
+any_each P test [] each any = cc any
+any_each P test (x ∷ xs) each any = elim (or_cases (test x) (list_any test xs) any) [
+  | inl here ↦ (x, (each.0, here))
+  | inr later ↦ any_each P test xs each.1 later
+]
+
+pub any_some : {X : Type 0} (test : X → Bool) (xs : List X) → list_any test xs ≡ true → (x : X) × (test x ≡ true)
+any_some test xs any = let found = any_each (λ _. Unit {0}) test xs (each_from (λ _. Unit {0}) xs (λ _. tt)) any in (found.0, found.1.1)
 
 -- the numbers of a range
 pub each_range : (a n : ℕ) → Each (λ k. (a ≤ k) × (k < a + n)) (range_with_len a n)

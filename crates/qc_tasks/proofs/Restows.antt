@@ -28,7 +28,7 @@ module _ {X : Type 0} (p : X → Bool) (xs : List X) where
     | inr past ↦ grind (arith, nat_tests)
   ]
 
-  only_at : (i : ℕ) (d : X) → i < length xs → AllPairs (λ x y. p x ≡ true → p y ≡ false) xs → is_number i (position p xs) ≡ p (get_or xs i d)
+  pub only_at : (i : ℕ) (d : X) → i < length xs → AllPairs (λ x y. p x ≡ true → p y ≡ false) xs → is_number i (position p xs) ≡ p (get_or xs i d)
   only_at i d lt one = by (position p xs) refl
     where
       by : (o : Option ℕ) → position p xs ≡ o → is_number i o ≡ p (get_or xs i d)

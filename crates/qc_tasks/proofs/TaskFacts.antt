@@ -17,8 +17,10 @@ use Rattle.qc_model.specs.declared.task.Task.{Task}
 use Rattle.qc_model.specs.Tasks.{phase_rank, task_rank}
 use Rattle.qc_ship.specs.Ship.{ShipView, IsShip, HasTimes, takes, lowest_bay, highest_bay}
 use Rattle.qc_ship.specs.Cells.{is_on_deck}
+use Rattle.qc_ship.specs.declared.ship.TaskName.{TaskName}
 use Rattle.qc_stow.specs.declared.row.Row.{Row}
-use Rattle.qc_tasks.specs.InstanceOf.{is_move_of, moves_at, phase_with, phases, tasks_at, tasks_of, ticks_in}
+use Rattle.qc_tasks.specs.InstanceOf.{has_name, is_move_of, moves_at, phase_with, phases, tasks_at, tasks_of, ticks_in}
+use Rattle.qc_tasks.specs.Marks.{ShareNoName}
 use Rattle.qc_tasks.specs.Restows.{ShareNoMove}
 use Rattle.qc_tasks.proofs.Lists.{EachPair, each_from, each_weaker, each_flat_map, pair_weaker, pair_flat_map, pair_zip, pairs_from_index, sum_by-flat_map, sum_by-each, count_none, count_one, count_four, pairs_by_index}
 
@@ -197,6 +199,28 @@ module _ (ship : ShipView) (is : IsShip ship) (rows : List Row) where
             rw other (and-false (takes u.hatch row.cell.bay))
         | inr behind ↦ rw (takes_once t.hatch u.hatch row.cell.bay behind.0 parts.0) refl
       ]
+
+  -- two tasks have two names
+  one_name : (t u : Task) → Follows t u → (name : TaskName) → has_name name t ≡ true → has_name name u ≡ false
+  one_name t u f name mine = elim (cases_Bool (has_name name u)) [
+    | inr other ↦ other
+    | inl yours ↦
+        let (hatch, phase) = and_parts (t.hatch == name.hatch) (phase_rank t.phase == phase_rank name.phase) mine in
+        let (same_hatch, same_phase) = and_parts (u.hatch == name.hatch) (phase_rank u.phase == phase_rank name.phase) yours in
+        absurd (omega (
+          arith,
+          f.rank,
+          (Decides-eqb t.hatch name.hatch).0 hatch,
+          (Decides-eqb u.hatch name.hatch).0 same_hatch,
+          (Decides-eqb (phase_rank t.phase) (phase_rank name.phase)).0 phase,
+          (Decides-eqb (phase_rank u.phase) (phase_rank name.phase)).0 same_phase,
+        ))
+  ]
+
+  pub share_no_name : ShareNoName (tasks_of ship rows)
+  share_no_name =
+      pairs_by_index (λ t u. (name : TaskName) → has_name name t ≡ true → has_name name u ≡ false) (tasks_of ship rows)
+      (pair_weaker Follows (λ t u. (name : TaskName) → has_name name t ≡ true → has_name name u ≡ false) (tasks_of ship rows) one_name all_follow)
 
   pub share_no_move : ShareNoMove (tasks_of ship rows)
   share_no_move =

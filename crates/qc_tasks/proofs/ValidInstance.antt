@@ -23,22 +23,11 @@ use Rattle.qc_stow.specs.Moves.{most_moves}
 use Rattle.qc_stow.specs.declared.row.Move.{Move}
 use Rattle.qc_stow.specs.declared.row.Move.TheVariants.{Discharge, Load}
 use Rattle.qc_stow.specs.declared.row.Row.{Row}
-use Rattle.qc_tasks.specs.InstanceOf.{apart_of, before_of, brings_back, discharges, instance_of, is_apart, is_before, is_earlier_phase, is_move_of, is_restow, names_both, pairs_with, phase_with, phases, task_at, tasks_at, tasks_of}
-use Rattle.qc_tasks.proofs.Lists.{each_from, each_weaker, each_flat_map, each_zip, pairs_by_index}
+use Rattle.qc_tasks.specs.InstanceOf.{apart_of, before_of, brings_back, discharges, instance_of, is_apart, is_asked, is_before, is_earlier_phase, names_both, pairs_with, phases, task_at, tasks_at, tasks_of}
+use Rattle.qc_tasks.proofs.Lists.{any_each, each_from, each_weaker, each_flat_map, each_zip, pairs_by_index}
 use Rattle.qc_tasks.proofs.TaskFacts.{Follows, IsTaskAt, all_follow, few_tasks, four_tasks, hatch_are, lower_hatch}
 use Rattle.qc_tasks.proofs.WorkFacts.{all_work}
 use Rattle.qc_tasks.proofs.PairFacts.{few_apart, pairs_have, pairs_pass, pairs_sorted}
-
--- an element that passes, and what holds of each
-any_each : {X : Type 0} (P : X → Type 0) (test : X → Bool) (xs : List X) → Each P xs → list_any test xs ≡ true → (x : X) × (P x × (test x ≡ true))
-any_each P test [] each any = cc any
-any_each P test (x ∷ xs) each any = elim (or_cases (test x) (list_any test xs) any) [
-  | inl here ↦ (x, (each.0, here))
-  | inr later ↦ any_each P test xs each.1 later
-]
-
-any_some : {X : Type 0} (test : X → Bool) (xs : List X) → list_any test xs ≡ true → (x : X) × (test x ≡ true)
-any_some test xs any = let found = any_each (λ _. Unit {0}) test xs (each_from (λ _. Unit {0}) xs (λ _. tt)) any in (found.0, found.1.1)
 
 -- the last place is the greatest
 last_greatest : (ship : ShipView) → IsShip ship → (k d : ℕ) → k < length ship.places → get_or ship.places k d ≤ greatest_place ship
@@ -137,7 +126,7 @@ module _ (ship : ShipView) (is : IsShip ship) (rows : List Row) where
     ]
   ]
 
-  valid_tasks : length rows ≤ most_moves → HasValidTasks (instance_of ship rows)
+  pub valid_tasks : length rows ≤ most_moves → HasValidTasks (instance_of ship rows)
   valid_tasks few = record {
     count = few_tasks ship is rows;
     bays = λ j lt. All-from_recursion (λ (t : Task). IsFrom (pos 1) (pos (greatest_place ship)) t.bay) (tasks_of ship rows) tasks_within j no_task lt;
@@ -164,63 +153,28 @@ module _ (ship : ShipView) (is : IsShip ship) (rows : List Row) where
       let two : nat_lt (phase_rank t.phase) (phase_rank u.phase) ≡ true = (Decides-ltb (phase_rank t.phase) (phase_rank u.phase)).1 lt in
       rw (one, two) refl
 
-  -- the phase of a task by one of its moves
-  task_phase : (t : Task) (row : Row) → is_move_of t row ≡ true → phase_rank (phase_with row.kind (is_on_deck row.cell)) ≡ phase_rank t.phase
-  task_phase t row mine = (Decides-eqb (phase_rank (phase_with row.kind (is_on_deck row.cell))) (phase_rank t.phase)).0 (and_parts _ _ mine).1
+  -- the phases of a hatch are before one another
+  pub phases_before : (i j : ℕ) → i < j → j < length (tasks_of ship rows) → (task_at (tasks_of ship rows) i).hatch ≡ (task_at (tasks_of ship rows) j).hatch
+      → Contains (instance_of ship rows).before (pair_of i j)
+  phases_before i j ij jl same =
+      let tasks = tasks_of ship rows in
+      let rank = (follow i j no_task ij jl).rank in
+      pairs_have (length tasks) (is_before (is_asked ship.ordered ship.before rows tasks) tasks) i j (omega arith) jl
+      (or_left _ _ (earlier (task_at tasks i) (task_at tasks j) same (omega (arith, rank, same))))
 
-  load_late : (kind : Move) (deck : Bool) → is_load kind ≡ true → 2 ≤ phase_rank (phase_with kind deck)
-  load_late Discharge deck e = cc e
-  load_late Load true e = omega arith
-  load_late Load false e = omega arith
-
-  discharge_soon : (kind : Move) (deck : Bool) → is_discharge kind ≡ true → phase_rank (phase_with kind deck) ≤ 1
-  discharge_soon Discharge true e = omega arith
-  discharge_soon Discharge false e = omega arith
-  discharge_soon Load deck e = cc e
-
-  restows_rise : (tasks : List Task) (i j : ℕ) → is_restow tasks rows i j ≡ true → phase_rank (task_at tasks i).phase < phase_rank (task_at tasks j).phase
-  restows_rise tasks i j e =
-      let t = task_at tasks i in
-      let u = task_at tasks j in
-      let (back, comes) = any_some (brings_back rows t u) rows e in
-      let (loads, late) = and_parts (is_load back.kind && list_any (discharges t back.id) rows) (is_move_of u back) comes in
-      let (is_loaded, some) = and_parts (is_load back.kind) (list_any (discharges t back.id) rows) loads in
-      let (out, leaves) = any_some (discharges t back.id) rows some in
-      let (off, same) = and_parts (is_discharge out.kind && is_move_of t out) (bytes_eq out.id back.id) leaves in
-      let (is_out, soon) = and_parts (is_discharge out.kind) (is_move_of t out) off in
-      omega (
-        arith,
-        task_phase t out soon,
-        task_phase u back late,
-        discharge_soon out.kind (is_on_deck out.cell) is_out,
-        load_late back.kind (is_on_deck back.cell) is_loaded,
-      )
-
-  before_rises : (tasks : List Task) (i j : ℕ) → is_before (λ i j. ship.ordered && is_restow tasks rows i j) tasks i j ≡ true → phase_rank (task_at tasks i).phase < phase_rank (task_at tasks j).phase
-  before_rises tasks i j e = elim (or_cases _ _ e) [
-    | inl earlier ↦ (Decides-ltb (phase_rank (task_at tasks i).phase) (phase_rank (task_at tasks j).phase)).0 (and_parts _ _ earlier).1
-    | inr restow ↦ restows_rise tasks i j (and_parts ship.ordered (is_restow tasks rows i j) restow).1
-  ]
-
-  path_rises : (pairs : List Pair) (rank : ℕ → ℕ) → ((i j : ℕ) → Contains pairs (pair_of i j) → rank i < rank j) → (i : ℕ) (via : List ℕ) (j : ℕ) → IsPath pairs i via j → rank i < rank j
-  path_rises pairs rank rises i [] j has = rises i j has
-  path_rises pairs rank rises i (k ∷ ks) j path = omega (arith, rises i k path.0, path_rises pairs rank rises k ks j path.1)
-
-  valid_before : HasValidBefore (instance_of ship rows)
-  valid_before = record {
-    phases = λ i j ij jl same.
-        let rank = (follow i j no_task ij jl).rank in
-        pairs_have (length tasks) test i j (omega arith) jl (or_left _ _ (earlier (task_at tasks i) (task_at tasks j) same (omega (arith, rank, same))));
+  valid_before : ((i : ℕ) (via : List ℕ) → ¬ IsPath (instance_of ship rows).before i via i) → HasValidBefore (instance_of ship rows)
+  valid_before no_ring = record {
+    phases = phases_before;
     range = λ i j has. let p = pairs_pass (length tasks) test i j has in (p.0, p.1);
     sorted = pairs_sorted (length tasks) test;
-    no_ring = λ i via path. absurd (omega (arith, path_rises (pairs_with (length tasks) test) (λ k. phase_rank (task_at tasks k).phase) (λ a b has. before_rises tasks a b (pairs_pass (length tasks) test a b has).2) i via i path));
+    no_ring = no_ring;
   }
     where
       tasks : List Task
       tasks = tasks_of ship rows
 
       test : ℕ → ℕ → Bool
-      test = is_before (λ i j. ship.ordered && is_restow (tasks_of ship rows) rows i j) (tasks_of ship rows)
+      test = is_before (is_asked ship.ordered ship.before rows (tasks_of ship rows)) (tasks_of ship rows)
 
   apart_hatches : (tasks : List Task) (i j : ℕ) → is_apart ship.apart tasks i j ≡ true → (task_at tasks i).hatch < (task_at tasks j).hatch
   apart_hatches tasks i j e =
@@ -252,18 +206,17 @@ module _ (ship : ShipView) (is : IsShip ship) (rows : List Row) where
     sorted = pairs_sorted (length (tasks_of ship rows)) (is_apart ship.apart (tasks_of ship rows));
   }
 
-  pub valid_instance : length rows ≤ most_moves → Valid (instance_of ship rows)
-  valid_instance few = record {
+  pub valid_instance : length rows ≤ most_moves → ((i : ℕ) (via : List ℕ) → ¬ IsPath (instance_of ship rows).before i via i) → Valid (instance_of ship rows)
+  valid_instance few no_ring = record {
     limits = elim (cases_Bool ship.in_decimetres) [ inl given ↦ ∣ inr (place_limits given) ∣₁ | inr counted ↦ ∣ inl (bay_limits counted) ∣₁ ];
     tasks = valid_tasks few;
     cranes = valid_cranes;
-    before = valid_before;
+    before = valid_before no_ring;
     apart = valid_apart;
   }
 
 -- an instance part by part
-pub same_instance : (ship : ShipView) (rows : List Row) (bays travel gap : ℕ) (tasks : List Task) (cranes : List Crane) (before apart : List Pair) → bays ≡ greatest_place ship → travel ≡ ship.travel → gap ≡ ship.gap → tasks ≡ tasks_of ship rows → cranes ≡ ship.cranes → before ≡ before_of ship.ordered rows tasks → apart ≡ apart_of ship.apart tasks → ◌≡◌ {A = InstanceView} (record { bays = bays; travel = travel; gap = gap; tasks = tasks; cranes = cranes; before = before; apart = apart; turn = OneWay }) (instance_of ship rows)
+pub same_instance : (ship : ShipView) (rows : List Row) (bays travel gap : ℕ) (tasks : List Task) (cranes : List Crane) (before apart : List Pair) → bays ≡ greatest_place ship → travel ≡ ship.travel → gap ≡ ship.gap → tasks ≡ tasks_of ship rows → cranes ≡ ship.cranes → before ≡ before_of ship.ordered ship.before rows (tasks_of ship rows) → apart ≡ apart_of ship.apart tasks → ◌≡◌ {A = InstanceView} (record { bays = bays; travel = travel; gap = gap; tasks = tasks; cranes = cranes; before = before; apart = apart; turn = OneWay }) (instance_of ship rows)
 same_instance ship rows bays travel gap tasks cranes before apart e₁ e₂ e₃ e₄ e₅ e₆ e₇ =
-    let e₈ = e₆ ∙ ap (before_of ship.ordered rows) e₄ in
     let e₉ = e₇ ∙ ap (apart_of ship.apart) e₄ in
     cc

@@ -11,6 +11,8 @@ use Rattle.qc_model.specs.Tasks.{phase_rank}
 use Rattle.qc_model.specs.declared.turn.Turn.TheVariants.{OneWay}
 use Rattle.qc_model.specs.Instance.{InstanceView, pair_of, no_task}
 use Rattle.qc_ship.specs.declared.ship.HatchPair.{HatchPair}
+use Rattle.qc_ship.specs.declared.ship.NamePair.{NamePair}
+use Rattle.qc_ship.specs.declared.ship.TaskName.{TaskName}
 use Rattle.qc_ship.specs.Ship.{ShipView, takes, greatest_place}
 use Rattle.qc_stow.specs.Moves.{is_discharge, is_load}
 use Rattle.qc_stow.specs.declared.row.Move.{Move}
@@ -94,14 +96,30 @@ is_restow tasks rows i j = list_any (brings_back rows (task_at tasks i) (task_at
 abbrev pub is_earlier_phase : Task → Task → Bool
 is_earlier_phase t u = (t.hatch == u.hatch) && nat_lt (phase_rank t.phase) (phase_rank u.phase)
 
--- task i must end before task j starts: it has an earlier phase of the hatch, or there is a restow
--- that is kept in order
-abbrev pub is_before : (ℕ → ℕ → Bool) → List Task → ℕ → ℕ → Bool
-is_before restow tasks i j = is_earlier_phase (task_at tasks i) (task_at tasks j) || restow i j
+-- the name is that of the task
+abbrev pub has_name : TaskName → Task → Bool
+has_name name t = (t.hatch == name.hatch) && (phase_rank t.phase == phase_rank name.phase)
 
-abbrev pub before_of : Bool → List Row → List Task → List Pair
-before_of ordered rows tasks = pairs_with (length tasks)
-    (is_before (λ i j. ordered && is_restow tasks rows i j) tasks)
+-- an entry of the planner's own order names these two tasks
+abbrev pub puts_before : Task → Task → NamePair → Bool
+puts_before t u entry = has_name entry.first t && has_name entry.second u
+
+-- some entry puts task i before task j; one that names a task without a move names none of the list
+abbrev pub is_put_before : List NamePair → List Task → ℕ → ℕ → Bool
+is_put_before entries tasks i j = list_any (puts_before (task_at tasks i) (task_at tasks j)) entries
+
+-- task i is asked to end before task j starts: by a restow that is kept in order, or by an entry
+abbrev pub is_asked : Bool → List NamePair → List Row → List Task → ℕ → ℕ → Bool
+is_asked ordered entries rows tasks i j =
+    (ordered && is_restow tasks rows i j) || is_put_before entries tasks i j
+
+-- task i must end before task j starts: it has an earlier phase of the hatch, or it is asked
+abbrev pub is_before : (ℕ → ℕ → Bool) → List Task → ℕ → ℕ → Bool
+is_before asked tasks i j = is_earlier_phase (task_at tasks i) (task_at tasks j) || asked i j
+
+abbrev pub before_of : Bool → List NamePair → List Row → List Task → List Pair
+before_of ordered entries rows tasks =
+    pairs_with (length tasks) (is_before (is_asked ordered entries rows tasks) tasks)
 
 -- an entry names the hatches of both tasks, of which the first has the lower one and so the lower number
 abbrev pub names_both : Task → Task → HatchPair → Bool
@@ -122,7 +140,7 @@ instance_with ship rows tasks = record {
   gap = ship.gap;
   tasks = tasks;
   cranes = ship.cranes;
-  before = before_of ship.ordered rows tasks;
+  before = before_of ship.ordered ship.before rows tasks;
   apart = apart_of ship.apart tasks;
   turn = OneWay;
 }

@@ -4,12 +4,15 @@ ghost use Rattle.indexmap.specs.IndexMap.{get_by};
 ghost use Rattle.qc_stow.specs.Moves.{AreMoves, is_load};
 ghost use Rattle.qc_model.specs.Numbers.{most_tasks};
 ghost use Rattle.qc_tasks.specs.InstanceOf.{before_of, is_before, is_earlier_phase, is_move_of, is_restow, pairs_from, pairs_with, task_at};
+ghost use Rattle.qc_tasks.specs.Marks.{ShareNoName};
 ghost use Rattle.qc_tasks.specs.Restows.{NumbersDischarges, ShareNoMove, is_in, is_number, is_pair};
 
+use crate::entries::add_entries;
 use crate::moves::is_move_of;
 use indexmap::{IndexMap, IndexSet};
 use qc_model::{Pair, Task};
 use qc_num::OutOfMemory;
+use qc_ship::NamePair;
 use qc_stow::Row;
 use std::alloc::Global;
 
@@ -183,24 +186,51 @@ fn pairs_before(
     Ok(pairs)
 }
 
-/// The same for a ship that keeps restows in order, or doesn't.
+/// The tasks of containers that are discharged and loaded, of a ship that keeps these in order; no tasks
+/// of another.
+fn kept_restows(
+    alloc: Global,
+    ordered: bool,
+    tasks: &[Task],
+    rows: &[Row],
+) -> Result<IndexSet<(usize, usize)>, OutOfMemory>
+    requires tasks { ShareNoMove tasks.now }
+    requires moves { AreMoves rows.now }
+    ensures { IfOk result (λ pairs. (i j : ℕ) → i < length tasks.now → j < length tasks.now
+        → is_in pairs i j ≡ (ordered && is_restow tasks.now rows.now i j)) }
+{
+    if ordered {
+        restows(alloc, tasks, rows)
+    } else {
+        Ok(IndexSet::new(alloc))
+    }
+}
+
+/// The pairs of which the first task must end before the second starts: by phases, by restows that are
+/// kept in order, and by these entries of the planner's own order.
 pub(crate) fn before_of(
     alloc: Global,
     ordered: bool,
+    entries: &[NamePair],
     rows: &[Row],
     tasks: &[Task],
 ) -> Result<Vec<Pair>, OutOfMemory>
     requires count { length tasks.now ≤ most_tasks }
     requires tasks { ShareNoMove tasks.now }
+    requires names { ShareNoName tasks.now }
     requires moves { AreMoves rows.now }
-    ensures { IfOk result (λ v. v.items ≡ before_of ordered rows.now tasks.now) }
+    ensures { IfOk result (λ v. v.items ≡ before_of ordered entries.now rows.now tasks.now) }
 {
-    if ordered {
-        let restows = restows(alloc, tasks, rows)?;
-        let pairs = pairs_before(alloc, tasks, &restows);
-        drop(restows);
-        pairs
-    } else {
-        pairs_before(alloc, tasks, &IndexSet::new(alloc))
+    let mut asked = kept_restows(alloc, ordered, tasks, rows)?;
+    match add_entries(&mut asked, tasks, entries) {
+        Ok(()) => {
+            let pairs = pairs_before(alloc, tasks, &asked);
+            drop(asked);
+            pairs
+        }
+        Err(error) => {
+            drop(asked);
+            Err(error)
+        }
     }
 }

@@ -4,11 +4,14 @@
 
 mod apart;
 mod before;
+mod entries;
 mod instance;
 mod moves;
+mod order;
 mod report;
+mod rings;
 mod tasks;
 
-pub use instance::tasks_of;
+pub use instance::{TasksError, tasks_of};
 pub use moves::is_move_of;
 pub use report::write_tasks;

@@ -22,7 +22,11 @@ use Rattle.qc_ship.specs.ShipFile.{ship_of}
 use Rattle.qc_stow.specs.declared.fault.StowFault.{StowFault}
 use Rattle.qc_stow.specs.declared.row.Row.{Row}
 use Rattle.qc_stow.specs.Stow.{moves_in}
-use Rattle.qc_tasks.specs.InstanceOf.{instance_of}
+use Rattle.qc_ship.specs.Keys.{fault}
+use Rattle.qc_ship.specs.declared.fault.Key.TheVariants as key
+use Rattle.qc_ship.specs.declared.fault.ShipKind.TheVariants as kind
+use Rattle.qc_tasks.specs.Rings.{tasks_due}
+use Rattle.qc_run.specs.Due.{order_due}
 use Rattle.qc_tree.specs.Trees.{Tree, tree_text}
 use Rattle.qc_search.specs.Stored.{with_plan}
 use Rattle.qc_search.specs.Stored.{IsTreeStored as IsSearchStored}
@@ -47,21 +51,23 @@ use Rattle.qc_trial.specs.Texts.{made_text}
 -- ---- what is made
 
 -- no step refuses the words
-module _ {A : Type 0} (last : ShipView → List Row → A) where
-  list_made : (ship : ShipView) (rows : Result (List Row) StowFault)
-      → (with_fault refusal.BadStow rows >>= λ rows. Ok (last ship rows)) ≡ Err refusal.Usage → ⊥
-  list_made ship (Ok rows) e = cc e
-  list_made ship (Err fault) e = cc e
+order_made : (count : ℕ) (inst : Result InstanceView ℕ)
+    → (with_fault (λ k. refusal.BadShip (fault kind.Ring key.Before k)) inst >>= λ inst. Ok (count, inst)) ≡ Err refusal.Usage → ⊥
+order_made count (Ok inst) e = cc e
+order_made count (Err k) e = cc e
 
-  words_made : (ship : Result ShipView ShipFault) (moves : ShipView → Result (List Row) StowFault)
-      → (with_fault refusal.BadShip ship >>= λ s. with_fault refusal.BadStow (moves s) >>= λ rows. Ok (last s rows)) ≡ Err refusal.Usage → ⊥
-  words_made (Ok ship) moves e = list_made ship (moves ship) e
-  words_made (Err fault) moves e = cc e
+list_made : (ship : ShipView) (rows : Result (List Row) StowFault)
+    → (with_fault refusal.BadStow rows >>= λ rows. order_due ship rows >>= λ inst. Ok (length rows, inst)) ≡ Err refusal.Usage → ⊥
+list_made ship (Ok rows) e = order_made (length rows) (tasks_due ship rows) e
+list_made ship (Err fault) e = cc e
+
+words_made : (ship : Result ShipView ShipFault) (moves : ShipView → Result (List Row) StowFault)
+    → (with_fault refusal.BadShip ship >>= λ s. with_fault refusal.BadStow (moves s) >>= λ rows. order_due s rows >>= λ inst. Ok (length rows, inst)) ≡ Err refusal.Usage → ⊥
+words_made (Ok ship) moves e = list_made ship (moves ship) e
+words_made (Err fault) moves e = cc e
 
 never_words : (n h c : ℕ) → made_due n h c ≡ Err refusal.Usage → ⊥
-never_words n h c e =
-    let last : ShipView → List Row → ℕ × InstanceView = λ ship rows. (length rows, instance_of ship rows) in
-    words_made last (ship_of (ship_table h c)) (λ ship. moves_in ship (list_text n h)) e
+never_words n h c e = words_made (ship_of (ship_table h c)) (λ ship. moves_in ship (list_text n h)) e
 
 -- ---- the files
 

@@ -7,7 +7,8 @@ use Rattle.qc_run.specs.declared.status.Status.TheVariants as status
 use Rattle.qc_run.specs.Reports.{IsRun, Prints, PrintsPart}
 use Rattle.qc_run.specs.Told.{EndsWith, IsCutTold, IsRefusal, IsRefusalTold}
 use Rattle.qc_trial.specs.declared.made.Made.{Made}
-use Rattle.qc_trial.specs.Made.{IsDue, IsMade, made_due}
+use Rattle.qc_run.specs.Steps.{IsDue}
+use Rattle.qc_trial.specs.Made.{IsMade, made_due}
 use Rattle.qc_trial.specs.Texts.{made_text}
 
 -- what comes of a ship and a list that are made: they are searched, or they have a fault, or memory is wanting

@@ -8,8 +8,7 @@ use Rattle.qc_model.specs.Instance.{InstanceView}
 use Rattle.qc_model.specs.Rules.{ends}
 use Rattle.qc_run.specs.declared.refusal.Refusal.{Refusal}
 use Rattle.qc_run.specs.declared.refusal.Refusal.TheVariants as refusal
-use Rattle.qc_run.specs.declared.refusal.Stop.{Stop}
-use Rattle.qc_run.specs.declared.refusal.Stop.TheVariants as stop
+use Rattle.qc_run.specs.Due.{order_due}
 use Rattle.qc_search.specs.declared.done.Kind.{Kind}
 use Rattle.qc_search.specs.declared.done.Kind.TheVariants as kind
 use Rattle.qc_search.specs.Run.{DoneView}
@@ -17,7 +16,6 @@ use Rattle.qc_ship.specs.Ship.{ShipView}
 use Rattle.qc_ship.specs.ShipFile.{ship_of}
 use Rattle.qc_stow.specs.declared.row.Row.{Row}
 use Rattle.qc_stow.specs.Stow.{moves_in}
-use Rattle.qc_tasks.specs.InstanceOf.{instance_of}
 use Rattle.qc_tree.specs.Trees.{Tree}
 use Rattle.qc_trial.specs.declared.made.Made.{Made}
 use Rattle.qc_trial.specs.declared.made.Verdict.{Verdict}
@@ -36,13 +34,8 @@ abbrev pub made_due : (number hatches cranes : ℕ) → Result (ℕ × InstanceV
 made_due number hatches cranes = do
   ship ← ship_due hatches cranes
   rows ← moves_due number hatches ship
-  Ok (length rows, instance_of ship rows)
-
--- what is read is what is due, or memory was wanting
-abbrev pub IsDue : {A : Type 0} → Result A Refusal → Result A Stop → Type 0
-IsDue due (Ok read) = due ≡ Ok read
-IsDue due (Err (stop.Refused why)) = due ≡ Err why
-IsDue due (Err stop.OutOfMemory) = Unit {0}
+  inst ← order_due ship rows
+  Ok (length rows, inst)
 
 -- it is searched with at most so many branchings
 abbrev pub made_branchings : ℕ

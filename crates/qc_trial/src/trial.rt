@@ -5,7 +5,8 @@ ghost use Rattle.qc_model.specs.Judge.{IsJudgeable};
 ghost use Rattle.qc_model.specs.Rules.{ends};
 ghost use Rattle.qc_model.specs.declared.turn.Turn.TheVariants.{OneWay};
 ghost use Rattle.qc_trial.specs.Account.{IsMaking, IsTrialRun, TrialPromises};
-ghost use Rattle.qc_trial.specs.Made.{IsDue, made_due, moves_due, ship_due};
+ghost use Rattle.qc_run.specs.Steps.{IsDue};
+ghost use Rattle.qc_trial.specs.Made.{made_due, moves_due, ship_due};
 
 use crate::made::Made;
 use crate::stored::{check_stored, store_search};
@@ -14,11 +15,10 @@ use qc_io::{MemShelf, Sink};
 use qc_make::{list_text, ship_text};
 use qc_model::{Instance, ends};
 use qc_num::Tick;
-use qc_run::{Ended, Refusal, Status, Stop, report_stop, report_text};
+use qc_run::{Ended, Refusal, Status, Stop, instance_of, report_stop, report_text};
 use qc_search::Done;
 use qc_ship::{Ship, ShipError, read_ship};
 use qc_stow::{Moves, StowError, read_stow};
-use qc_tasks::tasks_of;
 use std::alloc::Global;
 
 /// The ship of the made ship file.
@@ -62,7 +62,7 @@ fn made_instance(
 {
     let ship = made_ship(alloc, hatches, cranes)?;
     let moves = made_moves(alloc, number, hatches, &ship)?;
-    let inst = tasks_of(alloc, &ship, &moves)?;
+    let inst = instance_of(alloc, &ship, &moves)?;
     Ok((moves.rows().len() as u64, inst))
 }
 

@@ -3,6 +3,7 @@
 #![tactic(auto)]
 
 mod after;
+mod order;
 mod texts;
 mod voice;
 

@@ -8,7 +8,7 @@ use qc_page::Page;
 use qc_run::Inputs;
 use qc_ship::{Ship, ShipError, read_ship};
 use qc_stow::{StowError, read_stow};
-use qc_tasks::tasks_of;
+use qc_tasks::{TasksError, tasks_of};
 use qc_words::Request;
 
 /// The greatest length of a file that is read whole, in bytes.
@@ -69,7 +69,11 @@ fn instance_in(page: &mut Page, ship: &Ship, bytes: &[u8]) -> Option<Instance> {
         Ok(moves) => {
             let inst = tasks_of(page.alloc(), ship, &moves);
             drop(moves);
-            page.unless_short(inst)
+            match inst {
+                Ok(inst) => Some(inst),
+                Err(TasksError::Ring(_)) => None,
+                Err(TasksError::OutOfMemory) => page.unless_short(Err(OutOfMemory)),
+            }
         }
         Err(StowError::Fault(_)) => None,
         Err(StowError::OutOfMemory) => page.unless_short(Err(OutOfMemory)),

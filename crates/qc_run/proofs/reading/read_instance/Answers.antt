@@ -1,6 +1,8 @@
-use Rattle.std.proofs.Common.{Ok, ap, sym, ◌∙◌}
+use Rattle.std.proofs.Common.{Ok, Result, ap, refl, sym, ◌∙◌}
+use Rattle.qc_num.specs.Reading.{◌>>=◌}
+use Rattle.qc_run.specs.declared.refusal.Refusal.{Refusal}
 use Rattle.qc_model.specs.Instance.{InstanceView, with_turn}
-use Rattle.qc_run.proofs.StepLemmas.{ship_steady, step_same, step_starved, step_stops, step_then}
+use Rattle.qc_run.proofs.StepLemmas.{order_stops, ship_steady, step_same, step_stops, step_then}
 use Rattle.qc_run.proofs.reading.read_instance.Goals as goal
 
 pub returns-in_err-ship-clause-step : goal.returns-in_err-ship-clause-step
@@ -12,13 +14,13 @@ returns-in_err-moves-clause-step g c =
     step_then _ _ _ ship_steady c.in_ok-ship.ensures
     (step_stops _ _ _ c.in_err-moves.ensures.step c.from_residual-in_err-moves.ensures.1)
 
-pub returns-in_err-tasks_of-clause-step : goal.returns-in_err-tasks_of-clause-step
-returns-in_err-tasks_of-clause-step g c =
+pub returns-in_err-inst-clause-step : goal.returns-in_err-inst-clause-step
+returns-in_err-inst-clause-step g c =
     step_then _ _ _ ship_steady c.in_ok-ship.ensures
-    (step_starved _ _ _ c.in_ok-moves.ensures.step c.from_residual-in_err-tasks_of.ensures.1)
+    (order_stops c.in_ok-ship.ship c.in_ok-moves.moves (λ _ inst contents. Ok (with_turn inst contents.turn)) _ c.in_err-inst.field-0.0 c.in_ok-moves.ensures.step refl c.in_err-inst.ensures.due c.from_residual-in_err-inst.ensures.1)
 
 pub returns-clause-step : goal.returns-clause-step
 returns-clause-step g c =
     step_then _ _ _ ship_steady c.in_ok-ship.ensures
     (step_same _ _ _ c.in_ok-moves.ensures.step
-    (λ held. ap (λ (inst : InstanceView). Ok (with_turn inst c.args.inputs.now.turn)) (sym c.in_ok-tasks_of.ensures) ∙ ap Ok (sym c.with_turn.ensures)))
+    (λ held. ap (λ (r : Result InstanceView Refusal). r >>= λ inst. Ok (with_turn inst c.args.inputs.now.turn)) c.in_ok-inst.ensures.due ∙ ap Ok (sym c.with_turn.ensures)))
