@@ -2,7 +2,7 @@
 use Rattle.std.proofs.Common.{◌≡◌, ◌≢◌, ℕ, zero, suc, ◌+◌, ◌<◌, ◌≤◌, ◌↔◌, inl, inr, Bool, true, false, cond, not, ◌&&◌, nat_lt, List, length, map, slice_index, refl, sym, ap, ◌∙◌, arith}
 use Rattle.std.specs.List.{range_with_len}
 use Rattle.std.specs.Prelude.{IsTrue}
-use Rattle.std.proofs.lemmas.Bool.{and_from, and_parts, cases_Bool, cases_eq, cases_lt, false≢true, lt-ltb, ltb-true, not-true, not_from_false}
+use Rattle.std.proofs.lemmas.Bool.{and_from, and_parts, cases_Bool, cases_eq, false≢true, lt-ltb, ltb-true, not-true, not_from_false}
 use Rattle.std.proofs.lemmas.Grind.{get_or-set_at}
 use Rattle.std.proofs.lemmas.List.{get_or-set_other}
 use Rattle.qc_dispatch.specs.Order.{Leads, gap}
@@ -12,7 +12,7 @@ use Rattle.qc_model.specs.Nodes.{greatest}
 use Rattle.qc_model.specs.Rules.{start_of}
 use Rattle.qc_model.proofs.Extremes.{le_greatest}
 use Rattle.qc_odds.specs.Course.{AreStarts, IsLastEnd, MayStartBy, end_in}
-use Rattle.qc_odds.specs.Critical.{AreMarked, HoldsUp, is_marked, with_tick_more}
+use Rattle.qc_odds.specs.Critical.{AreMarked, is_marked, with_tick_more}
 use Rattle.qc_odds.proofs.RiseLemmas.{no_later, starts_leave_room}
 
 module _ (inst : InstanceView) (plan : List Slot) (lengths starts : List ℕ) (last : ℕ) (marked : List Bool)
