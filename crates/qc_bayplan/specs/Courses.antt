@@ -103,7 +103,7 @@ beginning = record {
   other = 0;
 }
 
--- 1 to 9 digits, zeros ahead or not, that are this number
+-- a text of at most nine digits that has this value; it may begin with zeros
 abbrev pub is_number : ℕ → List ℕ → Bool
 is_number number text =
     list_all is_ascii_digit text && nat_le 1 (length text) && nat_le (length text) 9

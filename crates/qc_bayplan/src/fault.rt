@@ -10,7 +10,7 @@ use qc_ship::CellFault;
 /// What is wrong with a segment of a bay plan: the first of these that applies.
 #[derive(Clone, Copy, Debug)]
 pub enum BayPlanKind {
-    /// The six bytes behind `UNA` can't serve as signs; told with the number 0.
+    /// The six bytes behind `UNA` can't serve as signs, or there are fewer; told with the number 0.
     Una,
     /// Something follows though the plan is over.
     After,
@@ -18,7 +18,7 @@ pub enum BayPlanKind {
     Cut,
     /// The segment has more than 4,096 bytes.
     TooLong,
-    /// The tag isn't three letters.
+    /// The tag isn't three capital letters.
     Tag,
     /// The tag may not come here.
     Place,
@@ -80,7 +80,7 @@ impl BayPlanKind {
 /// The first fault of a bay plan.
 #[derive(Clone, Copy, Debug)]
 pub struct BayPlanFault {
-    /// The segment, from 1.
+    /// The segment, from 1; 0 where the signs are at fault.
     pub number: u32,
     pub kind: BayPlanKind,
 }

@@ -93,7 +93,7 @@ fn read_segments(
 }
 
 /// The bay plan of a file of less than 4 GB, or the fault of its first faulty segment. What a place
-/// holds beside its first container isn't read, nor is anything of places without a container.
+/// holds beside its first container isn't judged, nor are places without a container.
 pub fn read_bay_plan(alloc: Global, text: &[u8], which: Which) -> Result<BayPlan, BayPlanError>
     requires { length text.now + 2 < u32.MAX }
     ensures { IsReading (λ plan. plan) (bay_plan_in which text.now) result }

@@ -21,7 +21,7 @@ pub enum SegmentFault {
     Cut,
 }
 
-/// The six bytes behind `UNA` can't serve as signs.
+/// The six bytes behind `UNA` can't serve as signs, or there are fewer.
 #[derive(Clone, Copy, Debug, PartialEq, Eq)]
 pub struct NoSigns;
 
@@ -45,7 +45,7 @@ impl<'a> Model for Segments<'a> {
 
 impl<'a> Segments<'a> {
     /// The segments of a text, by the signs that `UNA` tells at its beginning, or else by the usual
-    /// ones. NoSigns comes where six bytes can't serve as signs.
+    /// ones. NoSigns comes where `UNA` has no six bytes behind it, or they can't serve.
     pub fn open(text: &'a [u8]) -> Result<Segments<'a>, NoSigns>
         ensures { result ≡ segments_in text.now }
     {

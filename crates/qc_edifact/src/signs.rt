@@ -4,8 +4,7 @@ ghost use Rattle.std.specs.Prelude.{◌≡◌, ◌≤◌, ◌<◌, length, not, 
 ghost use Rattle.qc_edifact.specs.Signs.{are_signs, is_apart, is_release, is_sign, release_told, signs_told};
 ghost use Rattle.qc_edifact.specs.Cuts.{CutsOff, ends_piece, piece_of};
 
-/// The signs that cut a text. The release sign takes the byte behind it along: that stands for
-/// itself.
+/// The signs that cut a text. A byte behind the release sign counts as itself and cuts nothing.
 #[derive(Clone, Copy)]
 pub(crate) struct Signs {
     pub(crate) component: u8,

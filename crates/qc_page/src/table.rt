@@ -226,6 +226,21 @@ fn why_not_as_many(fields: &ByteRecord, columns: usize) -> &'static str {
     }
 }
 
+/// Whether the first record of a table is the header as it is mostly written.
+fn is_usual(table: &Table<'_>, header: &str) -> bool {
+    let mut count = 0usize;
+    for name in header.split(',') {
+        if table.field(1, count) != name.as_bytes() {
+            return false;
+        }
+        count = count.saturating_add(1);
+    }
+    match table.record(1) {
+        Some(fields) => fields.len() == count,
+        None => false,
+    }
+}
+
 /// Says what is wrong with the fields of a record that hasn't as many as the header.
 pub fn say_fields(page: &mut Page, table: &Table<'_>, number: u32, header: &str) {
     let (Some(fields), Some(columns)) = (table.record(number), table.record(1)) else {
@@ -236,7 +251,7 @@ pub fn say_fields(page: &mut Page, table: &Table<'_>, number: u32, header: &str)
         .text("the record has ")
         .count(count as u64)
         .text(if count == 1 { " field" } else { " fields" });
-    if columns == 4 {
+    if is_usual(table, header) {
         page.text(", and needs four, ").text(header);
     } else {
         page.text(", and the header has ").count(columns as u64);

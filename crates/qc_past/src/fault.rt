@@ -18,13 +18,13 @@ pub enum PastKind {
     Call,
     /// The phase is none of `DD`, `DH`, `LH`, `LD` and `-`.
     Phase,
-    /// A length isn't plain decimal of 1 to 9 digits, or is 0.
+    /// One of the two lengths isn't a whole number from 1 to 999,999,999, written plainly.
     Number,
     /// The real length is above 100 times the planned one.
     TooLong,
-    /// The record before has the call, and so have 239 before that.
+    /// The 240 records before this one are all of its call, and a call has no more tasks.
     CallFull,
-    /// An earlier record has the call, and the one before hasn't.
+    /// The call was told before, and then another one: its records don't stand together.
     CallTwice,
     /// Nothing follows the header; told of the record behind it.
     Empty,

@@ -9,11 +9,11 @@ use qc_ship::CellFault;
 /// What is wrong with a record of a stowage list: the first of these that applies.
 #[derive(Clone, Copy, Debug, PartialEq, Eq)]
 pub enum StowKind {
-    /// The first record isn't the header, or there is no record.
+    /// The first record doesn't name each of the four columns exactly once, or there is no record.
     Header,
     /// There are more than 50,000 moves; told of the first one too many.
     TooMany,
-    /// The record hasn't four fields.
+    /// The record hasn't as many fields as the header.
     Fields,
     /// The id isn't 1 to 20 visible ASCII characters without comma and double quote.
     Id,
