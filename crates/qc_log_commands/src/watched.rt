@@ -2,14 +2,14 @@
 ghost use Rattle.std.specs.Prelude.{◌≡◌, ◌<◌, ◌≤◌, IsSome, length};
 ghost use Rattle.qc_run.specs.Inputs.{names_of};
 ghost use Rattle.qc_run.specs.Account.{Account, IsReaderRun};
-ghost use Rattle.qc_log_commands.specs.WatchAccount.{watch_reader};
+ghost use Rattle.qc_log_commands.specs.WatchAccount.{TellsWatching, watch_reader};
 ghost use Rattle.qc_log_commands.specs.WatchHeld.{TellsNear, crane_name};
 
 use crate::watch_report::report;
 use crate::watching::{BreachReport, Watching};
 use qc_io::{Shelf, Sink};
 use qc_num::Text;
-use qc_run::{Ended, Inputs, Stop, read_watched, report_stop};
+use qc_run::{Ended, Inputs, Stop, Watched, read_watched, report_stop};
 use qc_ship::Ship;
 use qc_watch::{Breach, first_breach};
 use std::alloc::Global;
@@ -35,19 +35,26 @@ fn near_of(ship: &Ship, breach: Breach) -> BreachReport
     }
 }
 
+/// What the reports of a log come to.
+fn judged(read: &Watched) -> Watching
+    requires { length read.now.reports ≡ length read.now.ship.cranes }
+    ensures { TellsWatching read.now result }
+{
+    match first_breach(&read.ship, &read.reports) {
+        Some(breach) => Watching::Breach(near_of(&read.ship, breach)),
+        None => Watching::Safe(read.reports.count()),
+    }
+}
+
 /// Reads the ship file and the log, and judges the log.
 fn judge<S: Shelf>(alloc: Global, inputs: &Inputs<'_>, shelf: &mut S) -> Result<Watching, Stop>
     requires { IsSome (names_of inputs.now).log }
     ensures { Account watch_reader (names_of inputs.now)
         (S.Sink.view shelf.old) (S.Sink.view shelf.new) result }
 {
-    let read = match read_watched(alloc, inputs, shelf) {
-        Ok(read) => read,
-        Err(stop) => return Err(stop),
-    };
-    match first_breach(&read.ship, &read.reports) {
-        Some(breach) => Ok(Watching::Breach(near_of(&read.ship, breach))),
-        None => Ok(Watching::Safe(read.reports.count())),
+    match read_watched(alloc, inputs, shelf) {
+        Ok(read) => Ok(judged(&read)),
+        Err(stop) => Err(stop),
     }
 }
 

@@ -51,23 +51,26 @@ use Rattle.qc_trial.specs.Texts.{made_text}
 -- ---- what is made
 
 -- no step refuses the words
-order_made : (count : ℕ) (inst : Result InstanceView ℕ)
-    → (with_fault (λ k. refusal.BadShip (fault kind.Ring key.Before k)) inst >>= λ inst. Ok (count, inst)) ≡ Err refusal.Usage → ⊥
-order_made count (Ok inst) e = cc e
-order_made count (Err k) e = cc e
+module _ {A : Type 0} (last : List Row → InstanceView → A) where
+  order_made : (rows : List Row) (inst : Result InstanceView ℕ)
+      → (with_fault (λ k. refusal.BadShip (fault kind.Ring key.Before k)) inst >>= λ inst. Ok (last rows inst)) ≡ Err refusal.Usage → ⊥
+  order_made rows (Ok inst) e = cc e
+  order_made rows (Err k) e = cc e
 
-list_made : (ship : ShipView) (rows : Result (List Row) StowFault)
-    → (with_fault refusal.BadStow rows >>= λ rows. order_due ship rows >>= λ inst. Ok (length rows, inst)) ≡ Err refusal.Usage → ⊥
-list_made ship (Ok rows) e = order_made (length rows) (tasks_due ship rows) e
-list_made ship (Err fault) e = cc e
+  list_made : (ship : ShipView) (rows : Result (List Row) StowFault)
+      → (with_fault refusal.BadStow rows >>= λ rows. order_due ship rows >>= λ inst. Ok (last rows inst)) ≡ Err refusal.Usage → ⊥
+  list_made ship (Ok rows) e = order_made rows (tasks_due ship rows) e
+  list_made ship (Err fault) e = cc e
 
-words_made : (ship : Result ShipView ShipFault) (moves : ShipView → Result (List Row) StowFault)
-    → (with_fault refusal.BadShip ship >>= λ s. with_fault refusal.BadStow (moves s) >>= λ rows. order_due s rows >>= λ inst. Ok (length rows, inst)) ≡ Err refusal.Usage → ⊥
-words_made (Ok ship) moves e = list_made ship (moves ship) e
-words_made (Err fault) moves e = cc e
+  words_made : (ship : Result ShipView ShipFault) (moves : ShipView → Result (List Row) StowFault)
+      → (with_fault refusal.BadShip ship >>= λ s. with_fault refusal.BadStow (moves s) >>= λ rows. order_due s rows >>= λ inst. Ok (last rows inst)) ≡ Err refusal.Usage → ⊥
+  words_made (Ok ship) moves e = list_made ship (moves ship) e
+  words_made (Err fault) moves e = cc e
 
 never_words : (n h c : ℕ) → made_due n h c ≡ Err refusal.Usage → ⊥
-never_words n h c e = words_made (ship_of (ship_table h c)) (λ ship. moves_in ship (list_text n h)) e
+never_words n h c e =
+    let last : List Row → InstanceView → ℕ × InstanceView = λ rows inst. (length rows, inst) in
+    words_made last (ship_of (ship_table h c)) (λ ship. moves_in ship (list_text n h)) e
 
 -- ---- the files
 
