@@ -20,7 +20,7 @@ use Rattle.qc_dispatch.proofs.CourseLemmas.{end_started, goes_ended, goes_later,
 use Rattle.qc_dispatch.proofs.WorkedLemmas.{worked_taken}
 use Rattle.qc_model.specs.declared.schedule.Slot.{Slot}
 use Rattle.qc_model.specs.declared.task.Task.{Task}
-use Rattle.qc_model.specs.Instance.{InstanceView, Valid, no_task, task}
+use Rattle.qc_model.specs.Instance.{InstanceView, Valid, no_task, task as task_in}
 use Rattle.qc_model.specs.Rules.{Feasible, crane_of, no_slot}
 use Rattle.qc_odds.specs.Course.{AreStarts, end_in}
 
@@ -191,22 +191,22 @@ module _ (c : Course) (prompt : IsPrompt c) (none_left : left c ≡ 0) (none_run
   abbrev begins : List ℕ
   begins = map (λ (s : Slot). s.start) (slots_taken c)
 
-  w : IsWorked c (tasks_taken c) (slots_taken c)
-  w = worked_taken c prompt.course.keeps none_left none_runs
+  taken : IsWorked c (tasks_taken c) (slots_taken c)
+  taken = worked_taken c prompt.course.keeps none_left none_runs
 
   slot_is : (j : ℕ) → j < length c.inst.tasks → get_or (slots_taken c) j no_slot ≡ record { crane = crane_of c.plan j; start = begun_at c j }
   slot_is j low = get_or-map-range_with_len _ 0 (length c.inst.tasks) j j no_slot low (omega arith)
 
-  task_is : (j : ℕ) → j < length c.inst.tasks → get_or (tasks_taken c) j no_task ≡ record (task c.inst j) { ticks = ticks_taken c j }
+  task_is : (j : ℕ) → j < length c.inst.tasks → get_or (tasks_taken c) j no_task ≡ record (task_in c.inst j) { ticks = ticks_taken c j }
   task_is j low = get_or-map-range_with_len _ 0 (length c.inst.tasks) j j no_task low (omega arith)
 
   start_is : (j : ℕ) → j < length c.inst.tasks → slice_index begins j ≡ begun_at c j
   start_is j low =
-      get_or-map (λ (s : Slot). s.start) (slots_taken c) j no_slot 0 (omega (arith, low, w.slots_count)) ∙ ap (λ (s : Slot). s.start) (slot_is j low)
+      get_or-map (λ (s : Slot). s.start) (slots_taken c) j no_slot 0 (omega (arith, low, taken.slots_count)) ∙ ap (λ (s : Slot). s.start) (slot_is j low)
 
   length_is : (j : ℕ) → j < length c.inst.tasks → slice_index lengths j ≡ ticks_taken c j
   length_is j low =
-      get_or-map (λ (t : Task). t.ticks) (tasks_taken c) j no_task 0 (omega (arith, low, w.tasks_count)) ∙ ap (λ (t : Task). t.ticks) (task_is j low)
+      get_or-map (λ (t : Task). t.ticks) (tasks_taken c) j no_task 0 (omega (arith, low, taken.tasks_count)) ∙ ap (λ (t : Task). t.ticks) (task_is j low)
 
   ended_is : (j : ℕ) → j < length c.inst.tasks → (start_at c j ≡ Some (begun_at c j)) × (end_at c j ≡ Some (begun_at c j + ticks_taken c j))
   ended_is j low =
@@ -222,7 +222,7 @@ module _ (c : Course) (prompt : IsPrompt c) (none_left : left c ≡ 0) (none_run
 
   worked_starts : AreStarts c.inst c.plan lengths begins
   worked_starts = record {
-    count = length-map (slots_taken c) (λ (s : Slot). s.start) ∙ w.slots_count;
+    count = length-map (slots_taken c) (λ (s : Slot). s.start) ∙ taken.slots_count;
     each_one = λ j low moment. (
       λ le. record {
         free =
