@@ -18,9 +18,8 @@ use qc_num::{OutOfMemory, Tick};
 use std::alloc::Global;
 use std::marker::Model;
 
-/// A feasible plan, tried with other lengths of its tasks each time: who leads whom stays as planned, and no task waits
-/// longer than the rules ask. It keeps copies of the instance and of the plan, and takes memory
-/// in `open` alone.
+/// A feasible plan, tried with other lengths of its tasks each time: who leads whom stays as planned, and no task
+/// waits longer than the rules ask. It keeps copies of the instance and of the plan, and takes memory in `open` alone.
 pub struct Course {
     inst: Instance,
     slots: Vec<Slot>,
