@@ -10,7 +10,7 @@ use Rattle.qc_model.specs.Instance.{InstanceView}
 use Rattle.qc_odds.specs.Course.{end_in}
 use Rattle.qc_odds.specs.Critical.{AreMarked, HoldsUp, Matters, is_marked}
 use Rattle.qc_odds.specs.Order.{AreTurns, task_at}
-use Rattle.qc_odds.specs.declared.order.Turn.{Turn}
+use Rattle.qc_odds.specs.declared.order.PlannedStart.{PlannedStart}
 
 module _ (inst : InstanceView) (plan : List Slot) (lengths starts : List ℕ) where
   -- ---- one pair of tasks
@@ -36,14 +36,14 @@ module _ (inst : InstanceView) (plan : List Slot) (lengths starts : List ℕ) wh
     )
 
     -- the tasks from this place on are marked where they matter
-    pub record IsMarkedFrom (turns : List Turn) (left : ℕ) (marked : List Bool) : Type 0 where
+    pub record IsMarkedFrom (turns : List PlannedStart) (left : ℕ) (marked : List Bool) : Type 0 where
       pub count : length marked ≡ length inst.tasks
       pub done : (q : ℕ) → left ≤ q → q < length turns → IsTrue (is_marked marked (task_at turns q)) ↔ Matters inst plan lengths starts last marked (task_at turns q)
 
-    pub none_marked : (turns : List Turn) (left : ℕ) (marked : List Bool) → length turns ≤ left → length marked ≡ length inst.tasks → IsMarkedFrom turns left marked
+    pub none_marked : (turns : List PlannedStart) (left : ℕ) (marked : List Bool) → length turns ≤ left → length marked ≡ length inst.tasks → IsMarkedFrom turns left marked
     none_marked turns left marked all count = record { count = count; done = λ q from within. absurd (omega arith) }
 
-    module _ (turns : List Turn) (are : AreTurns inst plan turns) (p left : ℕ) (is_next : left ≡ p + 1) (low : p < length turns) (marked : List Bool)
+    module _ (turns : List PlannedStart) (are : AreTurns inst plan turns) (p left : ℕ) (is_next : left ≡ p + 1) (low : p < length turns) (marked : List Bool)
         (so_far : IsMarkedFrom turns left marked) (v : Bool) (says : IsTrue v ↔ Matters inst plan lengths starts last marked (task_at turns p)) where
       abbrev after : List Bool
       after = slice_set marked (task_at turns p) v
@@ -90,7 +90,7 @@ module _ (inst : InstanceView) (plan : List Slot) (lengths starts : List ℕ) wh
       pub next_marked : IsMarkedFrom turns p after
       next_marked = record { count = length-set marked (task_at turns p) v ∙ so_far.count; done = done_now }
 
-    pub all_marked : (turns : List Turn) (left : ℕ) (marked : List Bool) → AreTurns inst plan turns → left ≤ 0 → IsMarkedFrom turns left marked → AreMarked inst plan lengths starts last marked
+    pub all_marked : (turns : List PlannedStart) (left : ℕ) (marked : List Bool) → AreTurns inst plan turns → left ≤ 0 → IsMarkedFrom turns left marked → AreMarked inst plan lengths starts last marked
     all_marked turns left marked are none so_far = record {
       count = so_far.count;
       each_one = λ j low.

@@ -10,9 +10,9 @@ use Rattle.qc_model.specs.Rules.{start_of}
 use Rattle.qc_odds.specs.Course.{AreStarts, IsStart, MayStartBy, end_in}
 use Rattle.qc_odds.specs.Moments.{AreEarly, moment_by}
 use Rattle.qc_odds.specs.Order.{AreTurns, task_at}
-use Rattle.qc_odds.specs.declared.order.Turn.{Turn}
+use Rattle.qc_odds.specs.declared.order.PlannedStart.{PlannedStart}
 
-module _ (inst : InstanceView) (plan : List Slot) (turns : List Turn) (lengths : List ℕ) where
+module _ (inst : InstanceView) (plan : List Slot) (turns : List PlannedStart) (lengths : List ℕ) where
   -- the tasks before this place of the order have their starts
   pub record IsPassed (at : ℕ) (starts : List ℕ) : Type 0 where
     pub count : length starts ≡ length inst.tasks

@@ -1,21 +1,27 @@
 -- A dispatcher starts each task at the first moment at which it may, whatever is reported and when.
-use Rattle.std.proofs.Common.{◌≡◌, ◌≢◌, ◌⊎◌, ℕ, ◌+◌, ◌<◌, ◌≤◌, inl, inr, Option, None, Some, IfSome, Result, Ok, Err, List, [], ◌∷◌, length, map, get_or, slice_index, slice_set, sym, ap, subst, ◌∙◌, arith}
+use Rattle.std.proofs.Common.{◌≡◌, ◌≢◌, ◌⊎◌, ℕ, ◌+◌, ◌-◌, ◌<◌, ◌≤◌, false, inl, inr, Option, None, Some, IfSome, Result, Ok, Err, List, [], ◌∷◌, length, map, get_or, slice_index, slice_set, refl, sym, ap, subst, ◌∙◌, arith}
 use Rattle.std.specs.Prelude.{IsSomeAnd, ⊤}
-use Rattle.std.proofs.lemmas.Bool.{cases_lt}
+use Rattle.std.specs.Option.{unwrap_or}
+use Rattle.std.proofs.lemmas.Bool.{cases_lt, false≢true}
 use Rattle.std.proofs.lemmas.List.{get_or-map, length-map}
+use Rattle.std.proofs.lemmas.List.FromFn.{get_or-map-range_with_len}
+use Rattle.qc_dispatch.specs.declared.stage.Stage.{Stage}
 use Rattle.qc_dispatch.specs.declared.stage.Stage.TheVariants.{Waiting, Running, Ended}
 use Rattle.qc_dispatch.specs.declared.grant.Grant.{Grant}
 use Rattle.qc_dispatch.specs.declared.grant.NotRunning.{NotRunning}
 use Rattle.qc_dispatch.specs.Calls.{Advance, Call, Done, IsCalled, Reaches, opening}
-use Rattle.qc_dispatch.specs.Course.{Course, IsAdvanced, IsOver, IsReported, MayStart, end_at, end_in as stage_end, stage_of, start_at, start_in, started}
+use Rattle.qc_dispatch.specs.Course.{Course, IsAdvanced, IsOver, IsReported, MayStart, end_at, end_in as stage_end, is_running, is_waiting, left, running, stage_of, start_at, start_in, started}
 use Rattle.qc_dispatch.specs.Kept.{IsCourse}
 use Rattle.qc_dispatch.specs.Order.{Leads, free_of, gap}
-use Rattle.qc_dispatch.specs.Worked.{IsWorked}
+use Rattle.qc_dispatch.specs.Promises.{IsSpan}
+use Rattle.qc_dispatch.specs.Worked.{IsWorked, begun_at, slots_taken, tasks_taken, ticks_taken}
+use Rattle.qc_dispatch.proofs.Counts.{none_in}
 use Rattle.qc_dispatch.proofs.CourseLemmas.{end_started, goes_ended, goes_later, goes_started, none_started, opens, stage_set}
+use Rattle.qc_dispatch.proofs.WorkedLemmas.{worked_taken}
 use Rattle.qc_model.specs.declared.schedule.Slot.{Slot}
 use Rattle.qc_model.specs.declared.task.Task.{Task}
-use Rattle.qc_model.specs.Instance.{InstanceView, Valid, no_task}
-use Rattle.qc_model.specs.Rules.{Feasible, no_slot, start_of}
+use Rattle.qc_model.specs.Instance.{InstanceView, Valid, no_task, task as task_in}
+use Rattle.qc_model.specs.Rules.{Feasible, crane_of, no_slot}
 use Rattle.qc_odds.specs.Course.{AreStarts, end_in}
 
 -- by this moment task j may start, or might have
@@ -41,9 +47,9 @@ over_as o p t m same over = subst (λ (q : Option ℕ). IsSomeAnd q (λ end. end
 
 module _ (c : Course) (prompt : IsPrompt c) where
   -- ---- later, where none may start until then
-  later : (to : ℕ) → ((moment j : ℕ) → c.clock ≤ moment → moment ≤ to → ¬ MayStart c moment j) → IsPrompt (record c { clock = to })
-  later to none = record {
-    course = goes_later c prompt.course to;
+  later : (to : ℕ) → c.clock ≤ to → ((moment j : ℕ) → c.clock ≤ moment → moment ≤ to → ¬ MayStart c moment j) → IsPrompt (record c { clock = to })
+  later to from none = record {
+    course = goes_later c prompt.course to from;
     at_once = λ j start is moment may. prompt.at_once j start is moment (record { free = may.free; clear = may.clear });
     no_wait = λ j moment may.
         let old : MayStart c moment j = record { task = may.task; waits = may.waits; free = may.free; clear = may.clear } in
@@ -54,7 +60,7 @@ module _ (c : Course) (prompt : IsPrompt c) where
   }
 
   -- ---- a start, at the first moment at which some task may
-  module _ (task m : ℕ) (may : MayStart c m task)
+  module _ (task m : ℕ) (from : c.clock ≤ m) (may : MayStart c m task)
       (soonest : (moment j : ℕ) → c.clock ≤ moment → moment < m → ¬ MayStart c moment j) where
     abbrev begun : Course
     begun = started c m task
@@ -75,7 +81,7 @@ module _ (c : Course) (prompt : IsPrompt c) where
 
     prompt_started : IsPrompt begun
     prompt_started = record {
-      course = goes_started c prompt.course task m may;
+      course = goes_started c prompt.course task m from may;
       at_once = λ j start is x now. elim (stage_begun j) [
         | inl at ↦
             let same : m ≡ start = cc (sym (ap start_in at.1) ∙ is) in
@@ -149,10 +155,10 @@ module _ (c : Course) (prompt : IsPrompt c) where
 
 -- ---- calls
 
-prompt_advanced : (old new : Course) (to : ℕ) (granted : Option Grant) → IsPrompt old → IsAdvanced old to granted new → IsPrompt new
-prompt_advanced old new to None prompt passed = subst IsPrompt (sym passed.after) (later old prompt to passed.none)
-prompt_advanced old new to (Some grant) prompt granted =
-    subst IsPrompt (sym granted.after) (prompt_started old prompt grant.task grant.at granted.may granted.soonest)
+prompt_advanced : (old new : Course) (to : ℕ) (granted : Option Grant) → old.clock ≤ to → IsPrompt old → IsAdvanced old to granted new → IsPrompt new
+prompt_advanced old new to None from prompt passed = subst IsPrompt (sym passed.after) (later old prompt to from passed.none)
+prompt_advanced old new to (Some grant) from prompt granted =
+    subst IsPrompt (sym granted.after) (prompt_started old prompt grant.task grant.at granted.from granted.may granted.soonest)
 
 prompt_done : (old new : Course) (task : ℕ) (result : Result ⊤ NotRunning) → task < length old.inst.tasks → IsPrompt old
     → IsReported old task result new → IsPrompt new
@@ -160,38 +166,63 @@ prompt_done old new task (Ok done) inside prompt ended = subst IsPrompt (sym end
 prompt_done old new task (Err refused) inside prompt same = subst IsPrompt (sym same.after) prompt
 
 prompt_called : (old new : Course) (call : Call) → IsPrompt old → IsCalled old call new → IsPrompt new
-prompt_called old new (Advance to) prompt waits = prompt_advanced old new to waits.granted prompt waits.advanced
+prompt_called old new (Advance to) prompt waits = prompt_advanced old new to waits.granted waits.from prompt waits.advanced
 prompt_called old new (Done task) prompt tells = prompt_done old new task tells.result tells.inside prompt tells.reported
 
 prompt_reached : (old : Course) (calls : List Call) (new : Course) → IsPrompt old → Reaches old calls new → IsPrompt new
 prompt_reached old [] new prompt same = subst IsPrompt (sym same) prompt
 prompt_reached old (call ∷ calls) new prompt run = prompt_reached run.0 calls new (prompt_called old run.0 call prompt run.1) run.2
 
--- ---- once all tasks have ended
+-- ---- once nothing is left and nothing runs
 
-module _ (c : Course) (tasks : List Task) (sched : List Slot) (prompt : IsPrompt c) (w : IsWorked c tasks sched) where
+has_ended : (s : Stage) (now : ℕ) → is_waiting s ≡ false → is_running s ≡ false → IsSpan now s
+    → (start_in s ≡ Some (unwrap_or (start_in s) 0))
+    × (stage_end s ≡ Some (unwrap_or (start_in s) 0 + (unwrap_or (stage_end s) 0 - unwrap_or (start_in s) 0)))
+has_ended Waiting now begun through span = absurd (false≢true (sym begun))
+has_ended (Running start) now begun through span = absurd (false≢true (sym through))
+has_ended (Ended start end) now begun through span =
+    let all : end ≡ start + (end - start) = omega (arith, span.0) in
+    (refl, ap (λ (m : ℕ). Some m) all)
+
+module _ (c : Course) (prompt : IsPrompt c) (none_left : left c ≡ 0) (none_runs : running c ≡ 0) where
   abbrev lengths : List ℕ
-  lengths = map (λ (t : Task). t.ticks) tasks
+  lengths = map (λ (t : Task). t.ticks) (tasks_taken c)
 
   abbrev begins : List ℕ
-  begins = map (λ (s : Slot). s.start) sched
+  begins = map (λ (s : Slot). s.start) (slots_taken c)
 
-  start_is : (j : ℕ) → j < length c.inst.tasks → slice_index begins j ≡ start_of sched j
-  start_is j low = get_or-map (λ (s : Slot). s.start) sched j no_slot 0 (omega (arith, low, w.slots_count))
+  taken : IsWorked c (tasks_taken c) (slots_taken c)
+  taken = worked_taken c prompt.course.keeps none_left none_runs
 
-  length_is : (j : ℕ) → j < length c.inst.tasks → slice_index lengths j ≡ (get_or tasks j no_task).ticks
-  length_is j low = get_or-map (λ (t : Task). t.ticks) tasks j no_task 0 (omega (arith, low, w.tasks_count))
+  slot_is : (j : ℕ) → j < length c.inst.tasks → get_or (slots_taken c) j no_slot ≡ record { crane = crane_of c.plan j; start = begun_at c j }
+  slot_is j low = get_or-map-range_with_len _ 0 (length c.inst.tasks) j j no_slot low (omega arith)
+
+  task_is : (j : ℕ) → j < length c.inst.tasks → get_or (tasks_taken c) j no_task ≡ record (task_in c.inst j) { ticks = ticks_taken c j }
+  task_is j low = get_or-map-range_with_len _ 0 (length c.inst.tasks) j j no_task low (omega arith)
+
+  start_is : (j : ℕ) → j < length c.inst.tasks → slice_index begins j ≡ begun_at c j
+  start_is j low =
+      get_or-map (λ (s : Slot). s.start) (slots_taken c) j no_slot 0 (omega (arith, low, taken.slots_count)) ∙ ap (λ (s : Slot). s.start) (slot_is j low)
+
+  length_is : (j : ℕ) → j < length c.inst.tasks → slice_index lengths j ≡ ticks_taken c j
+  length_is j low =
+      get_or-map (λ (t : Task). t.ticks) (tasks_taken c) j no_task 0 (omega (arith, low, taken.tasks_count)) ∙ ap (λ (t : Task). t.ticks) (task_is j low)
+
+  ended_is : (j : ℕ) → j < length c.inst.tasks → (start_at c j ≡ Some (begun_at c j)) × (end_at c j ≡ Some (begun_at c j + ticks_taken c j))
+  ended_is j low =
+      has_ended (stage_of c j) c.clock (none_in is_waiting c.stages j Waiting (omega (arith, low, prompt.course.stages)) none_left)
+      (none_in is_running c.stages j Waiting (omega (arith, low, prompt.course.stages)) none_runs) (prompt.course.keeps.spans j)
 
   end_is : (j : ℕ) → j < length c.inst.tasks → end_at c j ≡ Some (end_in lengths begins j)
   end_is j low =
-      w.ends j low ∙ ap (λ (s : ℕ). Some (s + (get_or tasks j no_task).ticks)) (sym (start_is j low)) ∙ ap (λ (l : ℕ). Some (slice_index begins j + l)) (sym (length_is j low))
+      (ended_is j low).1 ∙ ap (λ (s : ℕ). Some (s + ticks_taken c j)) (sym (start_is j low)) ∙ ap (λ (l : ℕ). Some (slice_index begins j + l)) (sym (length_is j low))
 
   begun_is : (j : ℕ) → j < length c.inst.tasks → start_at c j ≡ Some (slice_index begins j)
-  begun_is j low = w.starts j low ∙ ap (λ (s : ℕ). Some s) (sym (start_is j low))
+  begun_is j low = (ended_is j low).0 ∙ ap (λ (s : ℕ). Some s) (sym (start_is j low))
 
   worked_starts : AreStarts c.inst c.plan lengths begins
   worked_starts = record {
-    count = length-map sched (λ (s : Slot). s.start) ∙ w.slots_count;
+    count = length-map (slots_taken c) (λ (s : Slot). s.start) ∙ taken.slots_count;
     each_one = λ j low moment. (
       λ le. record {
         free =
@@ -210,7 +241,8 @@ module _ (c : Course) (tasks : List Task) (sched : List Slot) (prompt : IsPrompt
     );
   }
 
-pub dispatched : (inst : InstanceView) (plan : List Slot) (calls : List Call) (after : Course) (tasks : List Task) (sched : List Slot) → Valid inst → Feasible inst plan
-    → Reaches (opening inst plan) calls after → IsWorked after tasks sched → AreStarts after.inst after.plan (map (λ t. t.ticks) tasks) (map (λ s. s.start) sched)
-dispatched inst plan calls after tasks sched valid feasible run w =
-    worked_starts after tasks sched (prompt_reached (opening inst plan) calls after (prompt_opening inst plan valid feasible) run) w
+pub dispatched : (inst : InstanceView) (plan : List Slot) (calls : List Call) (after : Course) → Valid inst → Feasible inst plan
+    → Reaches (opening inst plan) calls after → left after ≡ 0 → running after ≡ 0
+    → AreStarts after.inst after.plan (map (λ t. t.ticks) (tasks_taken after)) (map (λ s. s.start) (slots_taken after))
+dispatched inst plan calls after valid feasible run none_left none_runs =
+    worked_starts after (prompt_reached (opening inst plan) calls after (prompt_opening inst plan valid feasible) run) none_left none_runs

@@ -10,13 +10,16 @@ use Rattle.qc_dispatch.specs.declared.stage.Stage.TheVariants.{Waiting, Ended}
 use Rattle.qc_dispatch.specs.Course.{Course, IsOver, end_at, end_in as stage_end, stage_of, start_at, start_in}
 use Rattle.qc_dispatch.specs.Kept.{IsCourse}
 use Rattle.qc_dispatch.specs.Order.{Leads, free_of, gap}
-use Rattle.qc_dispatch.specs.Worked.{IsWorked}
+use Rattle.qc_dispatch.specs.Promises.{IsSpan}
+use Rattle.qc_dispatch.specs.Worked.{IsWorked, with_tasks}
 use Rattle.qc_dispatch.proofs.CourseLemmas.{keeps_of}
 use Rattle.qc_dispatch.proofs.WorkedLemmas.{worked}
 use Rattle.qc_model.specs.declared.schedule.Slot.{Slot}
 use Rattle.qc_model.specs.declared.task.Task.{Task}
 use Rattle.qc_model.specs.Instance.{InstanceView, Valid, no_task}
-use Rattle.qc_model.specs.Rules.{Feasible, no_slot, start_of}
+use Rattle.qc_model.specs.Nodes.{greatest}
+use Rattle.qc_model.specs.Rules.{Feasible, end_of, no_slot, start_of}
+use Rattle.qc_model.proofs.Extremes.{le_greatest}
 use Rattle.qc_odds.specs.Course.{AreStarts, MayStartBy, end_in, with_lengths, with_starts, with_ticks}
 
 -- ---- tasks and slots with other numbers
@@ -55,8 +58,12 @@ module _ (inst : InstanceView) (plan : List Slot) (lengths starts : List ℕ) (v
   abbrev stage : ℕ → Stage
   stage j = Ended (slice_index starts j) (end_in lengths starts j)
 
+  -- the moment by which all have ended
+  abbrev all_over : ℕ
+  all_over = greatest (map (end_in lengths starts) (range_with_len 0 n))
+
   abbrev course : Course
-  course = record { inst = inst; plan = plan; clock = 0; stages = map stage (range_with_len 0 n) }
+  course = record { inst = inst; plan = plan; clock = all_over; stages = map stage (range_with_len 0 n) }
 
   stage_is : (j : ℕ) → j < n → stage_of course j ≡ stage j
   stage_is j low = get_or-map-range_with_len stage 0 n j j Waiting low (omega arith)
@@ -73,6 +80,12 @@ module _ (inst : InstanceView) (plan : List Slot) (lengths starts : List ℕ) (v
   may_by : (j : ℕ) (low : j < n) → MayStartBy inst plan (end_in lengths starts) j (slice_index starts j)
   may_by j low = (are.each_one j low (slice_index starts j)).0 (omega arith)
 
+  kept_span : (j : ℕ) → IsSpan all_over (stage_of course j)
+  kept_span j = elim (cases_lt j n) [
+    | inl low ↦ subst (IsSpan all_over) (sym (stage_is j low)) (omega arith, le_greatest (end_in lengths starts) j 0 n (omega arith) (omega (arith, low)))
+    | inr high ↦ subst (IsSpan all_over) (sym (stage_past j high)) tt
+  ]
+
   kept_free : (j : ℕ) → IfSome (start_at course j) (λ start. free_of inst plan j ≤ start)
   kept_free j = elim (cases_lt j n) [
     | inl low ↦ subst (λ (o : Option ℕ). IfSome o (λ start. free_of inst plan j ≤ start)) (sym (start_is j low)) (may_by j low).free
@@ -85,7 +98,7 @@ module _ (inst : InstanceView) (plan : List Slot) (lengths starts : List ℕ) (v
       (subst (λ (o : Option ℕ). IsSomeAnd o (λ end. end + gap inst plan i j ≤ slice_index starts j)) (sym (end_is i leads.leader)) ((may_by j leads.led).clear i leads))
 
   kept : IsCourse course
-  kept = keeps_of course valid feasible (length-map-range_with_len stage 0 n) kept_free kept_order
+  kept = keeps_of course valid feasible (length-map-range_with_len stage 0 n) kept_span kept_free kept_order
 
   abbrev tasks : List Task
   tasks = with_ticks inst.tasks lengths
@@ -104,11 +117,14 @@ module _ (inst : InstanceView) (plan : List Slot) (lengths starts : List ℕ) (v
         let is = ticks_at inst.tasks lengths j all low in
         is ∙ ap (λ (t : Task). record (get_or inst.tasks j no_task) { ticks = t.ticks }) (sym is);
     cranes = λ j low. ap (λ (s : Slot). s.crane) (slot_is j low);
-    starts = λ j low. start_is j low ∙ ap (λ (s : Slot). Some s.start) (sym (slot_is j low));
+    starts = λ j low.
+        let start : slice_index starts j ≡ start_of slots j = ap (λ (s : Slot). s.start) (sym (slot_is j low)) in
+        subst (λ (o : Option ℕ). IsSomeAnd o (λ s. s ≤ start_of slots j)) (sym (start_is j low)) (omega (arith, start));
     ends = λ j low.
-        end_is j low
-        ∙ ap (λ (s : Slot). Some (s.start + slice_index lengths j)) (sym (slot_is j low))
-        ∙ ap (λ (t : Task). Some (start_of slots j + t.ticks)) (sym (ticks_at inst.tasks lengths j all low));
+        let end : end_in lengths starts j ≡ end_of (with_tasks inst tasks) slots j =
+        ap (λ (s : Slot). s.start + slice_index lengths j) (sym (slot_is j low))
+        ∙ ap (λ (t : Task). start_of slots j + t.ticks) (sym (ticks_at inst.tasks lengths j all low)) in
+        subst (λ (o : Option ℕ). IsSomeAnd o (λ e. end_of (with_tasks inst tasks) slots j ≤ e)) (sym (end_is j low)) (omega (arith, end));
   }
 
   pub work_feasible : Feasible (with_lengths inst lengths) slots

@@ -29,7 +29,7 @@ pub record AreStarts (inst : InstanceView) (plan : List Slot) (lengths starts : 
 pub record IsLastEnd (lengths starts : List ℕ) (last : ℕ) : Type 0 where
   pub each_by : (moment : ℕ) → (last ≤ moment) ↔ ((j : ℕ) → j < length starts → end_in lengths starts j ≤ moment)
 
--- a plan that is worked with ever new lengths, and the starts of the last time
+-- a plan that is tried with other lengths each time, and the starts of the last time
 pub record CourseView : Type 0 where
   pub inst : InstanceView
   pub plan : List Slot

@@ -7,16 +7,16 @@ unfoldable pub next_state : ℕ → ℕ
 next_state x = (6364136223846793005 * x + 1442695040888963407) % 2 ^ 64
 
 -- y times one more than twice y, in 64 bits
-unfoldable pub squared : ℕ → ℕ
-squared y = (y * (2 * y + 1)) % 2 ^ 64
+unfoldable pub quadratic : ℕ → ℕ
+quadratic y = (y * (2 * y + 1)) % 2 ^ 64
 
 -- the two halves of 64 bits, swapped
 unfoldable pub swapped : ℕ → ℕ
 swapped z = (z % 2 ^ 32) * 2 ^ 32 + z / 2 ^ 32
 
--- a number of 64 bits in which each bit hangs on all of x
+-- 64 bits, scrambled from x
 unfoldable pub mix : ℕ → ℕ
-mix x = swapped (squared (next_state x))
+mix x = swapped (quadratic (next_state x))
 
 -- a byte is mixed in
 abbrev pub with_byte : ℕ → ℕ → ℕ

@@ -6,28 +6,28 @@ use Rattle.qc_dispatch.specs.Order.{Leads}
 use Rattle.qc_model.specs.declared.schedule.Slot.{Slot}
 use Rattle.qc_model.specs.Instance.{InstanceView}
 use Rattle.qc_model.specs.Rules.{start_of}
-use Rattle.qc_odds.specs.declared.order.Turn.{Turn}
+use Rattle.qc_odds.specs.declared.order.PlannedStart.{PlannedStart}
 
 -- turns are in order of the planned start, then of the task's number
-abbrev pub turn_cmp : Turn → Turn → Ordering
+abbrev pub turn_cmp : PlannedStart → PlannedStart → Ordering
 turn_cmp a b = ordering_then (nat_cmp a.start b.start) (nat_cmp a.task b.task)
 
 -- the turn of a task
-abbrev pub turn_of : List Slot → ℕ → Turn
+abbrev pub turn_of : List Slot → ℕ → PlannedStart
 turn_of plan j = record { start = start_of plan j; task = j }
 
 -- the task whose turn is at a place
-abbrev pub task_at : List Turn → ℕ → ℕ
+abbrev pub task_at : List PlannedStart → ℕ → ℕ
 task_at turns at = slice_index (map (λ turn. turn.task) turns) at
 
 -- a task before this place leads the one there
-pub record ComesAhead (turns : List Turn) (at i : ℕ) : Type 0 where
+pub record ComesAhead (turns : List PlannedStart) (at i : ℕ) : Type 0 where
   pub place : ℕ
   pub ahead : place < at
   pub is : task_at turns place ≡ i
 
 -- the turns of all tasks, each once, behind those that lead it
-pub record AreTurns (inst : InstanceView) (plan : List Slot) (turns : List Turn) : Type 0 where
+pub record AreTurns (inst : InstanceView) (plan : List Slot) (turns : List PlannedStart) : Type 0 where
   pub count : length turns ≡ length inst.tasks
   pub inside : (at : ℕ) → at < length turns → task_at turns at < length inst.tasks
   pub all_there : (j : ℕ) → j < length inst.tasks → ComesAhead turns (length turns) j

@@ -1,4 +1,4 @@
-//! A plan that is worked with ever new lengths.
+//! A plan that is tried with other lengths each time.
 
 ghost use Rattle.std.specs.Prelude.{◌≡◌, IfOk, length, replicate};
 ghost use Rattle.qc_model.specs.Rules.{Feasible};
@@ -10,7 +10,7 @@ ghost use Rattle.qc_odds.specs.Moments.{AreSoon};
 ghost use Rattle.qc_odds.specs.Order.{AreTurns};
 
 use crate::critical::mark_critical;
-use crate::order::{Turn, turns_of};
+use crate::order::{PlannedStart, turns_of};
 use crate::pass::work;
 use qc_dispatch::lead_marks;
 use qc_model::{Instance, Schedule, Slot, copy};
@@ -18,16 +18,15 @@ use qc_num::{OutOfMemory, Tick};
 use std::alloc::Global;
 use std::marker::Model;
 
-/// A feasible plan that is worked with ever new lengths of its tasks: its order is followed, and each task starts at
-/// the first moment at which the rules allow it. It keeps copies of the instance and of the plan, and takes memory
-/// in `open` alone.
+/// A feasible plan, tried with other lengths of its tasks each time: who leads whom stays as planned, and no task
+/// waits longer than the rules ask. It keeps copies of the instance and of the plan, and takes memory in `open` alone.
 pub struct Course {
     inst: Instance,
     slots: Vec<Slot>,
     /// Which task leads which.
     marks: Vec<bool>,
     /// The tasks by their planned starts.
-    turns: Vec<Turn>,
+    turns: Vec<PlannedStart>,
     starts: Vec<Tick>,
 }
 
@@ -60,7 +59,7 @@ impl Drop for Course {
 struct Lists {
     slots: Vec<Slot>,
     marks: Vec<bool>,
-    turns: Vec<Turn>,
+    turns: Vec<PlannedStart>,
     starts: Vec<Tick>,
 }
 

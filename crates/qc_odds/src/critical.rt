@@ -8,7 +8,7 @@ ghost use Rattle.qc_odds.specs.Lengths.{AreLengths};
 ghost use Rattle.qc_odds.specs.Moments.{AreSoon};
 ghost use Rattle.qc_odds.specs.Order.{AreTurns};
 
-use crate::order::Turn;
+use crate::order::PlannedStart;
 use qc_dispatch::{cell, gap};
 use qc_model::{Instance, Slot};
 use qc_num::Tick;
@@ -81,7 +81,7 @@ pub(crate) fn mark_critical(
     inst: &Instance,
     slots: &[Slot],
     marks: &[bool],
-    turns: &[Turn],
+    turns: &[PlannedStart],
     lengths: &[Tick],
     starts: &[Tick],
     last: Tick,

@@ -1,7 +1,7 @@
 //! Numbers drawn by seed, run and text.
 
 ghost use Rattle.std.specs.Prelude.{◌≡◌, ◌<◌, ◌^◌};
-ghost use Rattle.qc_odds.specs.Draws.{draw, mix, next_state, squared, swapped, with_byte};
+ghost use Rattle.qc_odds.specs.Draws.{draw, mix, next_state, quadratic, swapped, with_byte};
 
 /// The multiplier and the increment of a linear congruential generator of 64 bits (Knuth).
 const MULTIPLIER: u64 = 6_364_136_223_846_793_005;
@@ -17,8 +17,8 @@ fn next_state(x: u64) -> u64
     MULTIPLIER.wrapping_mul(x).wrapping_add(INCREMENT)
 }
 
-fn squared(y: u64) -> u64
-    ensures { result ≡ squared y }
+fn quadratic(y: u64) -> u64
+    ensures { result ≡ quadratic y }
 {
     y.wrapping_mul(y.wrapping_mul(2).wrapping_add(1))
 }
@@ -30,11 +30,11 @@ fn swapped(z: u64) -> u64
     (z % HALF) * HALF + z / HALF
 }
 
-/// A number in which each bit hangs on all of another.
+/// 64 bits, scrambled from a number.
 fn mix(x: u64) -> u64
     ensures { result ≡ mix x }
 {
-    swapped(squared(next_state(x)))
+    swapped(quadratic(next_state(x)))
 }
 
 /// Mixes a number in.

@@ -2,10 +2,9 @@
 
 ghost use Rattle.std.specs.Prelude.{◌≡◌, ℕ, ◌<◌, ◌≤◌, ◌↔◌, Bool, IsTrue, List, length, map, slice_index};
 ghost use Rattle.qc_dispatch.specs.Calls.{Call, Reaches, opening};
-ghost use Rattle.qc_dispatch.specs.Course.{Course as Dispatched};
-ghost use Rattle.qc_dispatch.specs.Worked.{IsWorked};
+ghost use Rattle.qc_dispatch.specs.Course.{Course as Dispatched, left, running};
+ghost use Rattle.qc_dispatch.specs.Worked.{slots_taken, tasks_taken};
 ghost use Rattle.qc_model.specs.declared.schedule.Slot.{Slot};
-ghost use Rattle.qc_model.specs.declared.task.Task.{Task};
 ghost use Rattle.qc_model.specs.Instance.{InstanceView, Valid, ticks_of};
 ghost use Rattle.qc_model.specs.Rules.{Feasible, start_of};
 ghost use Rattle.qc_odds.specs.Course.{AreStarts, IsLastEnd, with_lengths, with_starts};
@@ -27,13 +26,13 @@ fn longer_tasks_start_no_sooner()
         → (j : ℕ) → j < length inst.tasks → slice_index starts j ≤ slice_index later j }
 {}
 
-/// Whatever calls a dispatcher gets: once all tasks have ended, each started when it does in the course with the
-/// lengths that they took.
+/// Whatever calls a dispatcher gets: once no task is left and none runs, each was granted when it starts in the course
+/// with the lengths that they took, from their granted starts to their reported ends.
 fn courses_are_the_dispatchers()
-    ensures { (inst : InstanceView) (plan : List Slot) (calls : List Call) (after : Dispatched) (tasks : List Task)
-        (sched : List Slot) → Valid inst → Feasible inst plan → Reaches (opening inst plan) calls after
-        → IsWorked after tasks sched
-        → AreStarts after.inst after.plan (map (λ t. t.ticks) tasks) (map (λ s. s.start) sched) }
+    ensures { (inst : InstanceView) (plan : List Slot) (calls : List Call) (after : Dispatched) → Valid inst
+        → Feasible inst plan → Reaches (opening inst plan) calls after → left after ≡ 0 → running after ≡ 0
+        → AreStarts after.inst after.plan (map (λ t. t.ticks) (tasks_taken after))
+        (map (λ s. s.start) (slots_taken after)) }
 {}
 
 /// With tasks that are no longer than planned none starts later than planned.

@@ -1,11 +1,11 @@
-//! The chance that a finishing time is kept: a plan is worked many times, with lengths that tasks of past calls
-//! really took.
+//! How likely it is that a ship is done in time: its plan is tried over and over, and each time tasks take as much
+//! longer or shorter as tasks of some past call did.
 //!
-//! `lengths` draws the lengths of a run. A `Course` works a plan with them in one pass: its order is followed, and
-//! each task starts at the first moment at which the rules allow it, which gives the least of all starts in that
-//! order; with any lengths that is a feasible schedule, and the one that a dispatcher comes to (`laws`). It marks the
-//! critical tasks of a run. A `Tally` keeps the ends of the runs, and tells their mean, the first tick by which so
-//! many are over, and the chance that a run is over by a tick.
+//! `lengths` draws the lengths of a run. A `Course` goes through a plan with them: who leads whom stays as planned,
+//! and no task waits longer than the rules ask. With any lengths that is a feasible schedule, and the starts are those
+//! that a dispatcher grants where tasks take so long (`laws`). It marks the critical tasks of a run. A `Tally` keeps
+//! the ends of the runs, and tells their mean, the first tick by which so many are over, and the chance that a run is
+//! over by a tick.
 #![tactic(auto)]
 
 mod course;

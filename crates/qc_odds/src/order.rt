@@ -9,9 +9,9 @@ use qc_model::{Instance, Slot};
 use qc_num::{OutOfMemory, Tick};
 use std::alloc::Global;
 
-/// The turn of a task. Turns are in order of their fields, the first one first.
+/// The turn of a task: turns are in order of their fields, the first one first.
 #[derive(Clone, Copy, PartialEq, Eq, PartialOrd, Ord)]
-pub(crate) struct Turn {
+pub(crate) struct PlannedStart {
     /// When the plan starts the task.
     pub(crate) start: Tick,
     /// The number of the task.
@@ -21,14 +21,18 @@ pub(crate) struct Turn {
 ghost use Rattle.qc_odds.specs.Order.{AreTurns, turn_cmp, turn_of};
 
 /// The turns of all tasks, by number.
-fn turns_by_number(alloc: Global, inst: &Instance, slots: &[Slot]) -> Result<Vec<Turn>, OutOfMemory>
+fn turns_by_number(
+    alloc: Global,
+    inst: &Instance,
+    slots: &[Slot],
+) -> Result<Vec<PlannedStart>, OutOfMemory>
     requires { Feasible inst.now slots.now }
     ensures { IfOk result
         (λ turns. turns.items ≡ map (turn_of slots.now) (range_with_len 0 (length inst.now.tasks))) }
 {
     let mut turns = Vec::new(alloc);
     for task in 0..inst.task_count() {
-        turns.push(Turn {
+        turns.push(PlannedStart {
             start: slots[task as usize].start,
             task,
         })?;
@@ -37,7 +41,7 @@ fn turns_by_number(alloc: Global, inst: &Instance, slots: &[Slot]) -> Result<Vec
 }
 
 /// Sorts turns.
-fn sort(turns: &mut Vec<Turn>) -> Result<(), OutOfMemory>
+fn sort(turns: &mut Vec<PlannedStart>) -> Result<(), OutOfMemory>
     ensures permutation { IsPermutation turns.old.items turns.new.items }
     ensures sorted { OnOk result (IsSorted turn_cmp turns.new.items) }
 {
@@ -50,7 +54,7 @@ pub(crate) fn turns_of(
     alloc: Global,
     inst: &Instance,
     slots: &[Slot],
-) -> Result<Vec<Turn>, OutOfMemory>
+) -> Result<Vec<PlannedStart>, OutOfMemory>
     requires { Feasible inst.now slots.now }
     ensures { IfOk result (λ turns. AreTurns inst.now slots.now turns.items) }
 {

@@ -9,7 +9,7 @@ ghost use Rattle.qc_odds.specs.Lengths.{AreLengths, most_length};
 ghost use Rattle.qc_odds.specs.Moments.{AreEarly, AreSoon, most_moment};
 ghost use Rattle.qc_odds.specs.Order.{AreTurns};
 
-use crate::order::Turn;
+use crate::order::PlannedStart;
 use qc_dispatch::{cell, gap};
 use qc_dist::head;
 use qc_model::{Instance, Slot};
@@ -59,7 +59,7 @@ fn pass(
     inst: &Instance,
     slots: &[Slot],
     marks: &[bool],
-    turns: &[Turn],
+    turns: &[PlannedStart],
     lengths: &[Tick],
     starts: &mut [Tick],
 )
@@ -98,7 +98,7 @@ pub(crate) fn work(
     inst: &Instance,
     slots: &[Slot],
     marks: &[bool],
-    turns: &[Turn],
+    turns: &[PlannedStart],
     lengths: &[Tick],
     starts: &mut [Tick],
 ) -> Tick

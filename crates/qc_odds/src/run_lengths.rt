@@ -67,8 +67,9 @@ fn call_of_run(past: &Past, seed: u32, run: u32) -> &[PastTask]
     past.call((draw(seed, run, b"") % calls) as u16)
 }
 
-/// The lengths that all tasks take in a run, from 1: drawn from those of one past call. They hang on seed, run and
-/// each task's name and length alone, so that two plans of one list meet the same lengths.
+/// The lengths that all tasks take in a run, from 1: drawn from those of one past call. They hang on the
+/// past tasks, seed and run, and on each task's name, phase and planned length alone, so that two plans of one list meet
+/// the same lengths.
 pub fn lengths(past: &Past, inst: &Instance, seed: u32, run: u32, lengths: &mut [Tick])
     requires { length lengths.old ≡ length inst.now.tasks }
     ensures drawn { AreDrawn past.now inst.now seed run lengths.new }
