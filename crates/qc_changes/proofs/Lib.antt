@@ -1,0 +1,12 @@
+pub mod Any
+pub mod Elements
+pub mod LiftLemmas
+pub mod StandLemmas
+pub mod LegalLemmas
+pub mod LeadLemmas
+pub mod LeastLemmas
+pub mod FloorLemmas
+pub mod Turns
+pub mod StayLemmas
+pub mod PlanLemmas
+pub mod ChangesLemmas

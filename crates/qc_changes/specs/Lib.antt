@@ -1,0 +1,9 @@
+pub mod Over
+pub mod Classes
+pub mod MoveList
+pub mod States
+pub mod ListText
+pub mod Floors
+pub mod Plans
+pub mod Lifts
+pub mod Changes

@@ -1,0 +1,27 @@
+-- public: the text of a list of moves, as the reader of stowage lists takes it.
+use Rattle.std.specs.Prelude.{ℕ, Bool, List, ◌++◌, codes, if◌then◌else◌}
+use Rattle.std.specs.List.{flat_map}
+use Rattle.qc_ship.specs.Cells.{cell_text, is_forty}
+use Rattle.qc_stow.specs.declared.row.Move.{Move}
+use Rattle.qc_stow.specs.declared.row.Move.TheVariants.{Discharge, Load}
+use Rattle.qc_stow.specs.declared.row.Row.{Row}
+
+abbrev pub header : List ℕ
+header = codes "id,move,cell,length\n"
+
+abbrev pub move_text : Move → List ℕ
+move_text Discharge = codes ",D,"
+move_text Load = codes ",L,"
+
+-- the length of a container in feet, at the end of its line
+abbrev pub length_text : Bool → List ℕ
+length_text forty = if forty then codes ",40\n" else codes ",20\n"
+
+-- the line of a move: the container, which way it goes, its cell, and its length in feet
+abbrev pub row_line : Row → List ℕ
+row_line row =
+    row.id ++ move_text row.kind ++ cell_text row.cell ++ length_text (is_forty row.cell)
+
+-- the names of the columns, and a line for each move
+abbrev pub list_text : List Row → List ℕ
+list_text rows = header ++ flat_map row_line rows
