@@ -35,7 +35,7 @@ abbrev c3 : Crane
 c3 = at (codes "C3") 5
 
 abbrev work : ℕ → Phase → ℕ → ℕ → Task
-work hatch phase bay ticks = record { hatch = hatch; phase = phase; bay = pos bay; ticks = ticks }
+work hatch phase bay ticks = record { hatch = hatch; phase = phase; bay = pos bay; ticks = ticks; release = 0 }
 
 abbrev deck : ℕ → ℕ → ℕ → Task
 deck hatch bay ticks = work hatch DeckOut bay ticks
