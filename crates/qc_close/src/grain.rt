@@ -60,5 +60,8 @@ pub(crate) fn grain(inst: &Instance) -> Tick
     ensures { result ≡ grain inst.now }
 {
     let tasks = inst.tasks();
-    with_cranes(with_releases(with_tasks(inst.travel(), tasks), tasks), inst.cranes())
+    with_cranes(
+        with_releases(with_tasks(inst.travel(), tasks), tasks),
+        inst.cranes(),
+    )
 }

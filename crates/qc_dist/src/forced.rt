@@ -1,4 +1,4 @@
-//! What decisions force: time lags between tasks, and release times.
+//! What decisions force: time lags between tasks, and when each can start at the least.
 
 ghost use Rattle.std.specs.Prelude.{◌≡◌, ◌+◌, ◌<◌, ◌≤◌, ◌↔◌, IfSome, IsTrue, length};
 ghost use Rattle.qc_model.specs.declared.limits.TheConstants.{MOST_DISTANCE, MOST_READY, MOST_WORK};
@@ -135,8 +135,8 @@ impl Decisions {
         self.forced(i, j).is_some() || self.forced(j, i).is_some()
     }
 
-    /// The release time of task `j`: when its crane can first be at it, or the earliest crane that
-    /// reaches it while it has none; 0 where none does.
+    /// When task `j` can start at the least: with its crane, or while it has none with the earliest
+    /// crane that reaches it; 0 where none does.
     pub fn lead(&self, j: u16) -> Tick
         requires task { j < length self.now.inst.tasks }
         ensures ticks { result ≡ head self.now.inst self.now.decisions j }

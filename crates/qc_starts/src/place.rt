@@ -58,7 +58,7 @@ impl Spread {
         }
     }
 
-    /// The earliest start of a task by its release time and the arcs into it, and the predecessor
+    /// The earliest start of a task by its head and the arcs into it, and the predecessor
     /// that determines it, if one does.
     pub(crate) fn soonest(&self, network: &Network, task: u16) -> (Tick, Option<u16>)
         requires task { task < length network.now.inst.tasks }

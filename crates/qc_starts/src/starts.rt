@@ -240,8 +240,8 @@ impl Starts {
         self.network.decisions().crane_of(j)
     }
 
-    /// The release time of a task: when its crane can first be at it, or the earliest crane that
-    /// reaches it while it has none.
+    /// When a task can start at the least: with its crane, or while it has none with the earliest
+    /// crane that reaches it.
     pub fn lead(&self, j: u16) -> Tick
         requires { j < length self.now.inst.tasks }
         ensures ticks { result ≡ head self.now.inst self.now.decisions j }
