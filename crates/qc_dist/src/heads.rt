@@ -1,4 +1,4 @@
-//! Release times of tasks, for every task and crane: computed once for an instance.
+//! When tasks can start at the least, with every crane: computed once for an instance.
 
 ghost use Rattle.std.specs.Prelude.{◌≡◌, ◌+◌, ◌<◌, ◌≤◌, None, length, min, IfOk};
 ghost use Rattle.std.specs.Option.{option_map_or};

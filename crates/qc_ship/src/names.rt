@@ -31,6 +31,7 @@ fn is_named(hatch: u16, phase: Phase, text: &str) -> bool
         phase,
         bay: 0,
         ticks: 0,
+        release: 0,
     };
     task.text().as_bytes() == text.as_bytes()
 }

@@ -56,6 +56,7 @@ tasks_at ship rows hatch place phase =
       phase = phase;
       bay = pos place;
       ticks = ticks_in ship phase (moves_at rows hatch phase);
+      release = 0;
     } ∷ []
 
 -- the tasks in order of hatch, then phase

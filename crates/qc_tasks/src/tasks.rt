@@ -44,6 +44,7 @@ fn push_task(
             phase,
             bay: Bay::from(place),
             ticks,
+            release: 0,
         })?;
     }
     Ok(())
