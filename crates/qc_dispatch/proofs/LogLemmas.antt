@@ -1,5 +1,5 @@
 -- What comes of a log, one event and one line more.
-use Rattle.std.proofs.Common.{◌≡◌, ℕ, ◌+◌, ◌*◌, ◌<◌, ◌≤◌, inl, inr, ◌++◌, List, [], ◌∷◌, length, map, slice_set, ap, sym, subst, ◌∙◌, Result, Ok, Err, append_assoc, arith}
+use Rattle.std.proofs.Common.{◌≡◌, ◌≢◌, ℕ, Bool, true, false, refl, ◌+◌, ◌*◌, ◌<◌, ◌≤◌, inl, inr, ◌++◌, List, [], ◌∷◌, length, map, slice_set, ap, sym, subst, ◌∙◌, Result, Ok, Err, append_assoc, arith}
 use Rattle.std.proofs.lemmas.List.{length-set}
 use Rattle.std.proofs.lemmas.List.Sums.{sum_by-set}
 use Rattle.qc_dispatch.specs.declared.event.Event.{Event}
@@ -8,38 +8,42 @@ use Rattle.qc_dispatch.specs.declared.grant.Grant.{Grant}
 use Rattle.qc_dispatch.specs.declared.fault.DispatchKind.{DispatchKind}
 use Rattle.qc_dispatch.specs.declared.fault.DispatchKind.TheVariants as kind
 use Rattle.qc_dispatch.specs.declared.report.Report.{Report}
-use Rattle.qc_dispatch.specs.declared.report.Report.TheVariants.{Passed, Done}
+use Rattle.qc_dispatch.specs.declared.report.Report.TheVariants.{Passed, Done, Left}
 use Rattle.qc_dispatch.specs.declared.stage.Stage.{Stage}
-use Rattle.qc_dispatch.specs.declared.stage.Stage.TheVariants.{Waiting, Running}
-use Rattle.qc_dispatch.specs.Course.{Course, IsGranted, IsPassed, IsQuiet, is_waiting, left}
+use Rattle.qc_dispatch.specs.declared.stage.Stage.TheVariants.{Waiting, Running, Ended}
+use Rattle.qc_dispatch.specs.Course.{Course, IsGranted, IsPassed, IsQuiet, is_running, is_waiting, left}
 use Rattle.qc_dispatch.specs.Events.{started_event}
-use Rattle.qc_dispatch.specs.Following.{IsGood, IsIdle, RunsOut, most_passed}
-use Rattle.qc_dispatch.specs.Journal.{HasFault, HasFirstFault, Journal, TakesAll, TakesLine, WentOn}
+use Rattle.qc_dispatch.specs.Following.{IsGood, RunsOut, most_passed}
+use Rattle.qc_dispatch.specs.Journal.{HasFault, HasFirstFault, IsIdle, Journal, TakesAll, TakesLine, WentOn}
 use Rattle.qc_dispatch.specs.Log.{most_lines, report_in}
 use Rattle.qc_dispatch.proofs.Counts.{tally}
+use Rattle.qc_model.specs.Numbers.{most_tasks}
 
 -- ---- events until a tick
 
 -- what is still to come until this tick, from here on, comes to the same as from the start on
 pub record IsOnWay (start : Journal) (to : ℕ) (here : Journal) : Type 0 where
   pub from : here.course.clock ≤ to
+  pub remaining : here.remaining ≡ start.remaining
   pub same : (new : Journal) → WentOn here to new → WentOn start to new
 
 pub at_start : (start : Journal) (to : ℕ) → start.course.clock ≤ to → IsOnWay start to start
-at_start start to from = record { from = from; same = λ new went. went }
+at_start start to from = record { from = from; remaining = refl; same = λ new went. went }
 
 -- one start more
 pub one_start : (start here : Journal) (to : ℕ) (grant : Grant) (next : Course) (events : List Event) → IsOnWay start to here
     → IsGranted here.course to grant next → events ≡ here.events ++ started_event next.inst grant ∷ []
-    → IsOnWay start to (record { course = next; events = events })
+    → IsOnWay start to (record here { course = next; events = events })
 one_start start here to grant next events way granted are = record {
   from = rw granted.after granted.by;
+  remaining = way.remaining;
   same = λ new went. way.same new (record {
     grants = grant ∷ went.grants;
     goes = (next, granted, went.goes);
     events = went.events ∙ ap (λ (es : List Event). es ++ map (started_event next.inst) went.grants) are
         ∙ append_assoc here.events (started_event next.inst grant ∷ []) (map (started_event next.inst) went.grants)
         ∙ ap (λ (c : Course). here.events ++ started_event c.inst grant ∷ map (started_event c.inst) went.grants) granted.after;
+    remaining = went.remaining;
   });
 }
 
@@ -58,11 +62,21 @@ one_left old new to grant same granted =
     let moved = sum_by-set p old.stages grant.task (Running grant.at) Waiting (omega (arith, granted.may.task, before)) in
     rw granted.after (omega (arith, moved, ap p granted.may.waits))
 
--- the task that is reported to be done doesn't run
-pub done_idle : (old : Journal) (before : ℕ) (line : List ℕ) (report : Report) → before < most_lines → report_in old.course.inst line ≡ Ok report
-    → IsIdle old report → HasFault old before line kind.NotRunning
-done_idle old before line (Passed ticks) few read idle = absurd idle
-done_idle old before line (Done task) few read idle = (few, record { task = task; read = read; idle = idle })
+-- a task that runs, and one that doesn't
+pub runs_since : (stage : Stage) → is_running stage ≡ true → (start : ℕ) × (stage ≡ Running start)
+runs_since Waiting runs = cc
+runs_since (Running start) runs = (start, refl)
+runs_since (Ended start end) runs = cc
+
+pub never_since : (stage : Stage) → is_running stage ≡ false → (start : ℕ) → stage ≢ Running start
+never_since Waiting rests start = λ e. cc
+never_since (Running from) rests start = cc
+never_since (Ended from end) rests start = λ e. cc
+
+-- a line reports of a task that doesn't run
+pub told_idle : (old : Journal) (before : ℕ) (line : List ℕ) (report : Report) → before < most_lines → report_in old.course.inst line ≡ Ok report
+    → IsIdle old.course report → HasFault old before line kind.NotRunning
+told_idle old before line report few read idle = (few, record { report = report; read = read; idle = idle })
 
 pub same_report : (read : Result Report DispatchKind) (r s : Report) → read ≡ Ok r → read ≡ Ok s → r ≡ s
 same_report read r s one other = cc
@@ -72,11 +86,11 @@ ok_or_err r report why ok err = cc
 
 -- a report that can be followed is a good line
 pub good_line : (old : Journal) (before : ℕ) (line : List ℕ) (report : Report) → before < most_lines
-    → report_in old.course.inst line ≡ Ok report → ¬ IsIdle old report → IsGood old before line
+    → report_in old.course.inst line ≡ Ok report → ¬ IsIdle old.course report → IsGood old before line
 good_line old before line report few read runs kind.TooMany fault = omega (arith, few, fault)
 good_line old before line report few read runs kind.NotRunning fault =
-    let e = same_report (report_in old.course.inst line) (Done fault.1.task) report fault.1.read read in
-    runs (subst (IsIdle old) e fault.1.idle)
+    let e = same_report (report_in old.course.inst line) fault.1.report report fault.1.read read in
+    runs (subst (IsIdle old.course) e fault.1.idle)
 good_line old before line report few read runs kind.Line fault = ok_or_err (report_in old.course.inst line) report kind.Line read fault.1
 good_line old before line report few read runs kind.UnknownTask fault = ok_or_err (report_in old.course.inst line) report kind.UnknownTask read fault.1
 
@@ -87,15 +101,18 @@ pub record AreOnWay (start : Journal) (all : List (List ℕ)) (here : Journal) (
   pub quiet : IsQuiet here.course
   pub early : here.course.clock ≤ most_passed * before
   pub few : before ≤ most_lines
+  pub room : length here.remaining ≡ most_tasks
   pub same : (new : Journal) → TakesAll here before rest new → TakesAll start 0 all new
   pub faults : (fault : DispatchFault) → HasFirstFault here before rest fault → HasFirstFault start 0 all fault
   pub runs_out : RunsOut here before rest → RunsOut start 0 all
 
-pub first_line : (start : Journal) (all : List (List ℕ)) → IsQuiet start.course → start.course.clock ≡ 0 → AreOnWay start all start 0 all
-first_line start all quiet early = record {
+pub first_line : (start : Journal) (all : List (List ℕ)) → IsQuiet start.course → start.course.clock ≡ 0 → length start.remaining ≡ most_tasks
+    → AreOnWay start all start 0 all
+first_line start all quiet early room = record {
   quiet = quiet;
   early = omega (arith, early);
   few = omega arith;
+  room = room;
   same = λ new takes. takes;
   faults = λ fault has. has;
   runs_out = λ out. out;
@@ -103,11 +120,12 @@ first_line start all quiet early = record {
 
 pub one_line : (start : Journal) (all : List (List ℕ)) (here : Journal) (before : ℕ) (line : List ℕ) (lines rest : List (List ℕ)) (next : Journal)
     → lines ≡ line ∷ rest → AreOnWay start all here before lines → TakesLine here before line next → IsQuiet next.course
-    → next.course.clock ≤ most_passed * (before + 1) → AreOnWay start all next (before + 1) rest
-one_line start all here before line lines rest next e way takes quiet early = record {
+    → next.course.clock ≤ most_passed * (before + 1) → length next.remaining ≡ most_tasks → AreOnWay start all next (before + 1) rest
+one_line start all here before line lines rest next e way takes quiet early room = record {
   quiet = quiet;
   early = early;
   few = omega (arith, takes.few);
+  room = room;
   same = λ new more. way.same new (subst (λ (ls : List (List ℕ)). TakesAll here before ls new) (sym e) (next, takes, more));
   faults = λ fault has. way.faults fault (subst (λ (ls : List (List ℕ)). HasFirstFault here before ls fault) (sym e) (inr (next, takes, has)));
   runs_out = λ out. way.runs_out (subst (λ (ls : List (List ℕ)). RunsOut here before ls) (sym e) (inr (next, takes, out)));
