@@ -25,7 +25,7 @@ import xml.etree.ElementTree as tree
 sys.dont_write_bytecode = True  # no folder of compiled files beside the scripts
 
 from free import FreeMotion, first_break
-from reference import (PHASES, direction_of, end_of, instance_of, motion_of, read_plan, read_ship, records_of)
+from reference import PHASES, direction_of, end_of, instance_of, motion_of, moves_of, read_plan, read_ship
 from tried import add_program, program_of
 
 INKS = ["#1f3a93", "#b3261e", "#1b7837", "#762a83", "#8c510a", "#01665e", "#c51b7d", "#333333"]
@@ -48,7 +48,7 @@ class Plan:
         self.way, self.parts = way and f"direction {way}", 1 if way else 2
         self.tracks = tracks_of(inst, plan, way)
         self.moves = {}
-        for _, kind, cell, _ in records_of(stow)[1:]:
+        for _, kind, cell, _ in moves_of(stow):
             phase = PHASES.index(kind + ("D" if int(cell[-2:]) >= 70 else "H"))
             hatch = ship.hatch_of(int(cell[:-4]))
             self.moves[hatch, phase] = self.moves.get((hatch, phase), 0) + 1
