@@ -87,14 +87,13 @@ some_ticks ship times DeckIn n some = omega (arith, mul-le-mul_left n times.deck
 
 -- no task is held back too long
 soon : (entries : List NameTick) → All (λ entry. entry.tick ≤ most_ready) entries → (hatch : ℕ) (phase : Phase) → release_at entries hatch phase ≤ most_ready
-soon entries all hatch phase = by (find named entries) refl
+soon entries all hatch phase = by (find (λ (entry : NameTick). is_name_of hatch phase entry.name) entries) refl
   where
-    named : NameTick → Bool
-    named entry = is_name_of hatch phase entry.name
-
-    by : (o : Option NameTick) → find named entries ≡ o → option_map_or (λ (entry : NameTick). entry.tick) o 0 ≤ most_ready
+    by : (o : Option NameTick) → find (λ (entry : NameTick). is_name_of hatch phase entry.name) entries ≡ o → option_map_or (λ (entry : NameTick). entry.tick) o 0 ≤ most_ready
     by None e = omega arith
-    by (Some entry) e = All-contains (λ (entry : NameTick). entry.tick ≤ most_ready) entries entry all (find-Contains named entries entry e)
+    by (Some entry) e =
+        All-contains (λ (entry : NameTick). entry.tick ≤ most_ready) entries entry all
+        (find-Contains (λ (entry : NameTick). is_name_of hatch phase entry.name) entries entry e)
 
 few_ticks : (ship : ShipView) → HasTimes ship → (phase : Phase) (n : ℕ) → ticks_in ship phase n ≤ 10000 * n + 10000
 few_ticks ship times DeckOut n = omega (arith, mul-le-mul_left n times.deck_move.1)
