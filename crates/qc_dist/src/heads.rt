@@ -43,7 +43,7 @@ fn least_head(inst: &Instance, j: u16) -> Tick
     least.unwrap_or(0)
 }
 
-/// When each crane can first be at task `j`.
+/// When each crane can first begin task `j`.
 fn free_row(inst: &Instance, j: u16) -> [Tick; MOST_CRANES as usize]
     requires { j < length inst.now.tasks }
     ensures { IsFreeRow inst.now j result }
