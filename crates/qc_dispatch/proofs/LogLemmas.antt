@@ -1,5 +1,6 @@
 -- What comes of a log, one event and one line more.
-use Rattle.std.proofs.Common.{◌≡◌, ◌≢◌, ℕ, Bool, true, false, refl, ◌+◌, ◌*◌, ◌<◌, ◌≤◌, inl, inr, ◌++◌, List, [], ◌∷◌, length, map, slice_set, ap, sym, subst, ◌∙◌, Result, Ok, Err, append_assoc, arith}
+use Rattle.std.proofs.Common.{◌≡◌, ◌≢◌, ℕ, Bool, true, false, cond, not, nat_lt, Option, None, Some, ok_or, bytes_eq, codes, refl, ◌+◌, ◌*◌, ◌<◌, ◌≤◌, inl, inr, ◌++◌, List, [], ◌∷◌, length, map, slice_set, ap, sym, subst, ◌∙◌, Result, Ok, Err, append_assoc, arith}
+use Rattle.std.specs.List.{after_first, before_first, list_any}
 use Rattle.std.proofs.lemmas.List.{length-set}
 use Rattle.std.proofs.lemmas.List.Sums.{sum_by-set}
 use Rattle.qc_dispatch.specs.declared.event.Event.{Event}
@@ -15,7 +16,11 @@ use Rattle.qc_dispatch.specs.Course.{Course, IsGranted, IsPassed, IsQuiet, is_ru
 use Rattle.qc_dispatch.specs.Events.{started_event}
 use Rattle.qc_dispatch.specs.Following.{IsGood, RunsOut, most_passed}
 use Rattle.qc_dispatch.specs.Journal.{HasFault, HasFirstFault, IsIdle, Journal, TakesAll, TakesLine, WentOn}
-use Rattle.qc_dispatch.specs.Log.{most_lines, report_in}
+use Rattle.qc_dispatch.specs.Log.{left_in, most_lines, report_in, report_of, task_in, task_named, ticks_in}
+use Rattle.qc_lines.specs.Lines.{ended, is_space}
+use Rattle.qc_model.specs.Instance.{InstanceView}
+use Rattle.qc_num.specs.Digits.{number_in}
+use Rattle.qc_num.specs.Reading.{◌>>=◌, require}
 use Rattle.qc_dispatch.proofs.Counts.{tally}
 use Rattle.qc_model.specs.Numbers.{most_tasks}
 
@@ -83,6 +88,82 @@ same_report read r s one other = cc
 
 ok_or_err : (r : Result Report DispatchKind) (report : Report) (why : DispatchKind) → r ≡ Ok report → r ≡ Err why → ⊥
 ok_or_err r report why ok err = cc
+
+-- ---- faults of one line by itself
+
+abbrev IsOfLine : DispatchKind → Type 0
+IsOfLine kind.TooMany = ⊥
+IsOfLine kind.Line = Unit {0}
+IsOfLine kind.UnknownTask = Unit {0}
+IsOfLine kind.NotRunning = ⊥
+
+abbrev OfLine : {A : Type 0} → Result A DispatchKind → Type 0
+OfLine (Ok a) = Unit {0}
+OfLine (Err why) = IsOfLine why
+
+of_bind : {A B : Type 0} (r : Result A DispatchKind) (f : A → Result B DispatchKind) → OfLine r → ((a : A) → OfLine (f a)) → OfLine (r >>= f)
+of_bind (Ok a) f p q = q a
+of_bind (Err why) f p q = p
+
+of_ok_or : {A : Type 0} (o : Option A) (why : DispatchKind) → IsOfLine why → OfLine (ok_or o why)
+of_ok_or None why p = p
+of_ok_or (Some a) why p = tt
+
+of_require : (b : Bool) (why : DispatchKind) → IsOfLine why → OfLine (require b why)
+of_require true why p = tt
+of_require false why p = p
+
+of_cond : {A : Type 0} (b : Bool) (x y : Result A DispatchKind) → OfLine x → OfLine y → OfLine (cond b x y)
+of_cond true x y p q = p
+of_cond false x y p q = q
+
+of_ticks : (number : List ℕ) → OfLine (ticks_in number)
+of_ticks number =
+    of_bind {B = ℕ} (ok_or (number_in 9 number) kind.Line) (λ ticks. require (nat_lt 0 ticks) kind.Line >>= λ _. Ok ticks) (of_ok_or (number_in 9 number) kind.Line tt) (λ ticks.
+    of_bind {B = ℕ} (require (nat_lt 0 ticks) kind.Line) (λ _. Ok ticks) (of_require (nat_lt 0 ticks) kind.Line tt) (λ _. tt))
+
+of_task : (inst : InstanceView) (name : List ℕ) → OfLine (task_in inst name)
+of_task inst name =
+    let named : Result ℕ DispatchKind = ok_or (task_named inst name) kind.UnknownTask in
+    of_bind {B = ℕ} (require (nat_lt 0 (length name)) kind.Line) (λ _. require (not (list_any is_space name)) kind.Line >>= λ _. named) (of_require (nat_lt 0 (length name)) kind.Line tt) (λ _.
+    of_bind {B = ℕ} (require (not (list_any is_space name)) kind.Line) (λ _. named) (of_require (not (list_any is_space name)) kind.Line tt) (λ _.
+    of_ok_or (task_named inst name) kind.UnknownTask tt))
+
+of_left : (inst : InstanceView) (rest : List ℕ) → OfLine (left_in inst rest)
+of_left inst rest =
+    let name = before_first is_space rest in
+    of_bind {B = Report} (ticks_in (after_first is_space rest)) (λ ticks. task_in inst name >>= λ task. Ok (Left task ticks)) (of_ticks (after_first is_space rest)) (λ ticks.
+    of_bind {B = Report} (task_in inst name) (λ task. Ok (Left task ticks)) (of_task inst name) (λ task. tt))
+
+of_words : (inst : InstanceView) (word rest : List ℕ) → OfLine (report_of inst word rest)
+of_words inst word rest =
+    let ticks : Result Report DispatchKind = ticks_in rest >>= λ ticks. Ok (Passed ticks) in
+    let done : Result Report DispatchKind = task_in inst rest >>= λ task. Ok (Done task) in
+    let none : Result Report DispatchKind = Err kind.Line in
+    let last : Result Report DispatchKind = cond (bytes_eq word (codes "left")) (left_in inst rest) none in
+    of_cond (bytes_eq word (codes "tick")) ticks (cond (bytes_eq word (codes "done")) done last)
+    (of_bind {B = Report} (ticks_in rest) (λ ticks. Ok (Passed ticks)) (of_ticks rest) (λ ticks. tt))
+    (of_cond (bytes_eq word (codes "done")) done last
+    (of_bind {B = Report} (task_in inst rest) (λ task. Ok (Done task)) (of_task inst rest) (λ task. tt))
+    (of_cond (bytes_eq word (codes "left")) (left_in inst rest) none (of_left inst rest) tt))
+
+of_report : (inst : InstanceView) (line : List ℕ) → OfLine (report_in inst line)
+of_report inst line =
+    of_bind {B = Report} (ok_or (ended line) kind.Line) (λ text. report_of inst (before_first is_space text) (after_first is_space text)) (of_ok_or (ended line) kind.Line tt)
+    (λ text. of_words inst (before_first is_space text) (after_first is_space text))
+
+-- what a line by itself is refused for is its fault
+pub line_fault : (old : Journal) (before : ℕ) (line : List ℕ) (why : DispatchKind) → before < most_lines → report_in old.course.inst line ≡ Err why
+    → HasFault old before line why
+line_fault old before line why few read = by why (subst OfLine read (of_report old.course.inst line)) read
+  where
+    by : (why : DispatchKind) → IsOfLine why → report_in old.course.inst line ≡ Err why → HasFault old before line why
+    by kind.TooMany of read = absurd of
+    by kind.Line of read = (few, read)
+    by kind.UnknownTask of read = (few, read)
+    by kind.NotRunning of read = absurd of
+
+-- ---- good lines
 
 -- a report that can be followed is a good line
 pub good_line : (old : Journal) (before : ℕ) (line : List ℕ) (report : Report) → before < most_lines

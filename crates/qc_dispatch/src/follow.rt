@@ -206,7 +206,7 @@ impl Followed {
 fn none_told(alloc: Global) -> Result<Vec<Option<Remaining>>, OutOfMemory>
     ensures { IfOk result (λ v. v.items ≡ replicate most_tasks None) }
 {
-    let remaining = vec![in alloc; None; MOST_TASKS as usize].map_err(OutOfMemory::from)?;
+    let remaining = Vec::from_slice(alloc, &[None; MOST_TASKS as usize])?;
     Ok(remaining)
 }
 

@@ -1,5 +1,5 @@
 -- What release times that were read are.
-use Rattle.std.proofs.Common.{◌≡◌, ◌≢◌, ◌×◌, ℕ, ◌+◌, ◌≤◌, ◌<◌, List, [], length, get_or, Some, Ok, subst, arith, ok_or, All, AllPairs, Contains, true, false, sym, ◌∙◌}
+use Rattle.std.proofs.Common.{◌≡◌, ◌≢◌, ℕ, ◌+◌, ◌≤◌, ◌<◌, List, [], length, get_or, Some, Ok, subst, arith, ok_or, All, AllPairs, Contains, true, false, sym, ◌∙◌}
 use Rattle.std.specs.List.{list_any}
 use Rattle.std.proofs.lemmas.Bool.{false≢true}
 use Rattle.std.proofs.lemmas.List.{get_or_default}
