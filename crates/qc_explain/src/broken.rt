@@ -156,9 +156,7 @@ fn say_reach(page: &mut Page, task: &Doing<'_>) {
 /// When a task's crane can be there.
 fn arrival(task: &Doing<'_>) -> Tick {
     let bays = Tick::from(task.crane.bay.abs_diff(task.bay()));
-    task.crane
-        .ready
-        .saturating_add(travel(task.inst, bays))
+    task.crane.ready.saturating_add(travel(task.inst, bays))
 }
 
 /// Says when a task may start that is held back, and whose crane can be there by then.

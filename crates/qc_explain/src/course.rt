@@ -19,7 +19,13 @@ pub fn say_course(page: &mut Page, file: &str, bytes: &[u8], fault: DispatchFaul
             .end(),
         DispatchKind::Line => {
             let why = why_no_line(raw_line(bytes, number));
-            say_no_line(page, place, bytes, why, "tick N, done TASK or left TASK N, as done 2-DD")
+            say_no_line(
+                page,
+                place,
+                bytes,
+                why,
+                "tick N, done TASK or left TASK N, as done 2-DD",
+            )
         }
         DispatchKind::UnknownTask => page
             .on(place)

@@ -65,9 +65,9 @@ HasReleases-from hatches ms entries e =
     let long : length entries ≡ 0 + length ds = length-each (release_in hatches) [] ds entries judged in (
       omega (arith, counts.1, long),
       each-keeps (release_in hatches) Q (λ before d entry so_far step.
-        let tells = release_in-tells hatches before d entry step in (
-          All-push (IsReleaseOf hatches) before entry so_far.0 tells.0,
-          all_pairs_push (λ entry later. entry.name ≢ later.name) before entry so_far.1 (λ k d within. tells.1 k d within),
-        ))
+          let tells = release_in-tells hatches before d entry step in (
+            All-push (IsReleaseOf hatches) before entry so_far.0 tells.0,
+            all_pairs_push (λ entry later. entry.name ≢ later.name) before entry so_far.1 (λ k d within. tells.1 k d within),
+          ))
           [] ds entries none judged,
     ))
