@@ -17,6 +17,7 @@ has_place ship.NameTwice fault other = refl
 has_place ship.Apart fault other = refl
 has_place ship.Task fault other = refl
 has_place ship.Same fault other = refl
+has_place ship.TaskTwice fault other = refl
 has_place ship.Ring fault other = refl
 
 pub returns-in_default : goal.returns-in_default
