@@ -187,6 +187,8 @@ input_steady input.Plan input.Plan contents = inr refl
 input_steady input.Tree input.Tree contents = inr refl
 input_steady input.Own input.Own contents = inr refl
 input_steady input.Log input.Log contents = inr refl
+input_steady input.Arrival input.Arrival contents = inr refl
+input_steady input.Departure input.Departure contents = inr refl
 input_steady read file contents = inl refl
 
 pub then_steady : {A B : Type 0} (step : Contents → Result A Refusal) (next : A → Contents → Result B Refusal) → Steady step → ((a : A) → Steady (next a))
@@ -210,6 +212,8 @@ same_turn input.Plan contents = refl
 same_turn input.Tree contents = refl
 same_turn input.Own contents = refl
 same_turn input.Log contents = refl
+same_turn input.Arrival contents = refl
+same_turn input.Departure contents = refl
 
 pub ship_steady : Steady ship_due
 ship_steady = then_steady (input_due input.Ship) (λ bytes _. with_fault refusal.BadShip (ship_file bytes)) (input_steady input.Ship) (λ bytes file contents. inl refl)
