@@ -12,6 +12,7 @@ ghost use Rattle.qc_changes.specs.MoveList.{AreParts, IsMoveList, row_of};
 ghost use Rattle.qc_changes.specs.Changes.{AreChanges};
 ghost use Rattle.qc_changes.specs.States.{Leads};
 
+use crate::counts::counts_of;
 use crate::floors::Floors;
 use crate::lift::floors_of;
 use crate::outcome::Changes;
@@ -101,15 +102,16 @@ fn fill(
 }
 
 /// The moves that lead from one plan to another.
-fn rows_between(alloc: Global, first: &Plan<'_>, second: &Plan<'_>) -> Result<Vec<Row>, OutOfMemory>
+fn rows_between(alloc: Global, first: &Plan<'_>, second: &Plan<'_>) -> Result<Changes, OutOfMemory>
     ensures { IfOk result (λ rows. (lifted : List Container) × (AreLifted first.now second.now lifted
         × IsMoveList first.now second.now lifted rows.items)) }
 {
     let mut off = Vec::new(alloc);
     let mut on = Vec::new(alloc);
     fill(alloc, &mut off, &mut on, first, second)?;
+    let counts = counts_of(first, second, off.len() as u32);
     off.append(&mut on)?;
-    Ok(off)
+    Ok(Changes::of(off, counts))
 }
 
 /// The moves that lead from the first plan to the second, in an order in which they can be made.
@@ -128,6 +130,5 @@ pub fn changes(alloc: Global, first: &BayPlan, second: &BayPlan) -> Result<Chang
     let rows = rows_between(alloc, &first, &second);
     drop(first);
     drop(second);
-    let rows = rows?;
-    Ok(Changes::of(rows))
+    rows
 }

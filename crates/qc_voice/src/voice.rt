@@ -29,6 +29,8 @@ fn word_of(file: Input) -> &'static str {
         Input::Tree => "TREE",
         Input::Own => "OWN",
         Input::Log => "LOG",
+        Input::Arrival => "ARRIVAL",
+        Input::Departure => "DEPARTURE",
     }
 }
 
@@ -168,6 +170,7 @@ fn say_refusal<S: Shelf>(page: &mut Page, shelf: &mut S, inputs: &Inputs<'_>, wh
         Refusal::BadPlan(fault) => say_bad_plan(page, shelf, inputs, fault),
         Refusal::BadTree(fault) => say_bad_tree(page, shelf, inputs, fault),
         Refusal::BadLog(fault) => say_bad_log(page, shelf, inputs, fault),
+        Refusal::BadBayPlan(_, _) => {}
     }
 }
 
