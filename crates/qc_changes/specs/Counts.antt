@@ -1,5 +1,6 @@
 -- public: how many containers have each class.
-use Rattle.std.specs.Prelude.{ℕ, Bool, true, false, not, List, ◌++◌, filter, length, Option, None, Some, is_some}
+use Rattle.std.specs.Prelude.{ℕ, Bool, true, false, not, List, ◌++◌, filter, Option, None, Some, is_some}
+use Rattle.std.specs.List.{count_by}
 use Rattle.qc_bayplan.specs.declared.plan.Container.{Container}
 use Rattle.qc_changes.specs.declared.class.Class.{Class}
 use Rattle.qc_changes.specs.declared.class.Class.TheVariants as class
@@ -23,13 +24,13 @@ same_class class.Staying class.Staying = true
 same_class a b = false
 
 abbrev pub is_class : Class → Option Class → Bool
-is_class class None = false
-is_class class (Some other) = same_class class other
+is_class k None = false
+is_class k (Some other) = same_class k other
 
 -- how many of them have a class
 abbrev pub count_of : (first second lifted : List Container) → Class → ℕ
-count_of first second lifted class =
-    length (filter (λ c. is_class class (class_of first second lifted c.id)) (either first second))
+count_of first second lifted k =
+    count_by (λ c. is_class k (class_of first second lifted c.id)) (either first second)
 
 -- how many are counted
 abbrev pub count_in : Class → Counts → ℕ

@@ -1,5 +1,5 @@
 -- inner: what is lifted, as the code finds it.
-use Rattle.std.specs.Prelude.{◌≡◌, ℕ, List, ◌++◌, filter, map, Option}
+use Rattle.std.specs.Prelude.{◌≡◌, ℕ, List, ◌++◌, filter, length, map, Option}
 use Rattle.qc_ship.specs.Cells.{CellView}
 use Rattle.qc_stow.specs.declared.row.Move.TheVariants.{Discharge, Load}
 use Rattle.qc_stow.specs.declared.row.Row.{Row}
@@ -19,6 +19,12 @@ pub record IsLiftedFloor (lowest : Column → Option ℕ) (first second : List C
   pub cells : List CellView
   pub floor : IsFloor lowest cells
   pub lifted : AreLifted first second (chosen first second cells)
+
+-- so many go, lifted ones counted
+pub record HasOff (first second : List Container) (off : ℕ) : Type 0 where
+  pub lifted : List Container
+  pub are : AreLifted first second lifted
+  pub count : off ≡ length (changed first second ++ lifted)
 
 -- what goes and what comes, in the order in which it is found
 pub record HaveLifted (first second : List Container) (off on : List Row) : Type 0 where

@@ -8,8 +8,9 @@ ghost use Rattle.qc_bayplan.specs.declared.plan.Container.{Container};
 ghost use Rattle.qc_changes.specs.Classes.{AreLifted, changed, chosen, stands};
 ghost use Rattle.qc_changes.specs.Floors.{IsFloor, known};
 ghost use Rattle.qc_changes.specs.Lifts.{HaveLifted};
-ghost use Rattle.qc_changes.specs.MoveList.{AreParts, IsMoveList, row_of};
-ghost use Rattle.qc_changes.specs.Changes.{AreChanges};
+ghost use Rattle.qc_changes.specs.MoveList.{AreParts, row_of};
+ghost use Rattle.qc_bayplan.specs.Plan.{AreContainers};
+ghost use Rattle.qc_changes.specs.Changes.{AddUp, AreChanges};
 ghost use Rattle.qc_changes.specs.States.{Leads};
 
 use crate::counts::counts_of;
@@ -101,22 +102,25 @@ fn fill(
     Ok(())
 }
 
-/// The moves that lead from one plan to another.
-fn rows_between(alloc: Global, first: &Plan<'_>, second: &Plan<'_>) -> Result<Changes, OutOfMemory>
-    ensures { IfOk result (λ rows. (lifted : List Container) × (AreLifted first.now second.now lifted
-        × IsMoveList first.now second.now lifted rows.items)) }
+/// The moves that lead from one plan to another, and how many containers have each class.
+fn changes_between(alloc: Global, first: &Plan<'_>, second: &Plan<'_>) -> Result<Changes, OutOfMemory>
+    requires first { AreContainers first.now }
+    requires second { AreContainers second.now }
+    ensures { IfOk result (AreChanges first.now second.now) }
 {
     let mut off = Vec::new(alloc);
     let mut on = Vec::new(alloc);
     fill(alloc, &mut off, &mut on, first, second)?;
-    let counts = counts_of(first, second, off.len() as u32);
+    let counts = counts_of(first, second, off.len());
     off.append(&mut on)?;
     Ok(Changes::of(off, counts))
 }
 
-/// The moves that lead from the first plan to the second, in an order in which they can be made.
+/// The moves that lead from the first plan to the second, in an order in which they can be made, and how many
+/// containers have each class.
 pub fn changes(alloc: Global, first: &BayPlan, second: &BayPlan) -> Result<Changes, OutOfMemory>
     ensures moves { IfOk result (AreChanges first.now.containers second.now.containers) }
+    ensures sums { IfOk result (AddUp first.now.containers second.now.containers) }
 
     // They lead from the first plan to the second, each one legal, and no fewer do.
     ensures leads { IfOk result (λ c. Leads
@@ -127,8 +131,8 @@ pub fn changes(alloc: Global, first: &BayPlan, second: &BayPlan) -> Result<Chang
 {
     let first = Plan::new(alloc, first.containers())?;
     let second = Plan::new(alloc, second.containers())?;
-    let rows = rows_between(alloc, &first, &second);
+    let found = changes_between(alloc, &first, &second);
     drop(first);
     drop(second);
-    rows
+    found
 }

@@ -1,9 +1,13 @@
 //! How many containers have each class.
 
-ghost use Rattle.std.specs.Prelude.{◌≡◌, ◌+◌, ◌≤◌, length, filter, List};
+ghost use Rattle.std.specs.Prelude.{◌≡◌, ◌≤◌, length, List};
+ghost use Rattle.std.specs.List.{count_by};
+ghost use Rattle.qc_bayplan.specs.Plan.{AreContainers, most_containers};
 ghost use Rattle.qc_bayplan.specs.declared.plan.Container.{Container};
+ghost use Rattle.qc_changes.specs.declared.class.Class.{Class};
 ghost use Rattle.qc_changes.specs.Classes.{AreLifted, is_still};
-ghost use Rattle.qc_changes.specs.Counts.{count_in, is_gone};
+ghost use Rattle.qc_changes.specs.Counts.{count_in, count_of, is_gone};
+ghost use Rattle.qc_changes.specs.Lifts.{HasOff};
 
 use crate::class::Class;
 use crate::plan::Plan;
@@ -20,7 +24,7 @@ pub struct Counts {
 
 impl Counts {
     /// How many have this one.
-    pub fn of(&self, class: Class) -> u32
+    pub(crate) fn of(&self, class: Class) -> u32
         ensures { result ≡ count_in class self.now }
     {
         match class {
@@ -35,7 +39,8 @@ impl Counts {
 
 /// How many containers of a plan the other hasn't at all.
 fn count_gone(plan: &Plan<'_>, other: &Plan<'_>) -> u32
-    ensures { result ≡ length (filter (is_gone other.now) plan.now) }
+    requires { length plan.now ≤ most_containers }
+    ensures { result ≡ count_by (is_gone other.now) plan.now }
 {
     let mut count = 0;
     for container in plan.containers() {
@@ -48,7 +53,8 @@ fn count_gone(plan: &Plan<'_>, other: &Plan<'_>) -> u32
 
 /// How many containers of a plan the other has at the same cell.
 fn count_still(plan: &Plan<'_>, other: &Plan<'_>) -> u32
-    ensures { result ≡ length (filter (is_still other.now) plan.now) }
+    requires { length plan.now ≤ most_containers }
+    ensures { result ≡ count_by (is_still other.now) plan.now }
 {
     let mut count = 0;
     for container in plan.containers() {
@@ -59,12 +65,18 @@ fn count_still(plan: &Plan<'_>, other: &Plan<'_>) -> u32
     count
 }
 
-/// How many containers have each class, where so many are discharged, lifted ones counted.
-pub(crate) fn counts_of(first: &Plan<'_>, second: &Plan<'_>, off: u32) -> Counts {
+/// How many containers have each class, where so many go, lifted ones counted.
+pub(crate) fn counts_of(first: &Plan<'_>, second: &Plan<'_>, off: usize) -> Counts
+    requires first { AreContainers first.now }
+    requires second { AreContainers second.now }
+    requires off { HasOff first.now second.now off }
+    ensures { (lifted : List Container) → AreLifted first.now second.now lifted → (k : Class)
+        → count_in k result ≡ count_of first.now second.now lifted k }
+{
     let discharged = count_gone(first, second);
     let still = count_still(first, second);
     let changed = first.containers().len() as u32 - still;
-    let lifted = off - changed;
+    let lifted = off as u32 - changed;
     Counts {
         discharged,
         loaded: count_gone(second, first),

@@ -1,4 +1,12 @@
 //! The command that lists moves.
+ghost use Rattle.std.specs.Prelude.{◌≡◌, ◌⊎◌, ◌≤◌, None, OnErr, OnOk};
+ghost use Rattle.qc_changes.specs.ListText.{list_text};
+ghost use Rattle.qc_io.specs.Outside.{with_file};
+ghost use Rattle.qc_io.specs.Writes.{Counts};
+ghost use Rattle.qc_run.specs.Inputs.{moving};
+ghost use Rattle.qc_moves_command.specs.Account.{IsListing, IsMovesRun};
+ghost use Rattle.qc_moves_command.specs.Figures.{figures_of};
+ghost use Rattle.qc_moves_command.specs.Promises.{MovesPromises};
 
 use crate::answer::{Figures, MovesAnswer};
 use crate::report::report;
@@ -8,26 +16,50 @@ use qc_run::{BayPlans, Ended, MovesAsked, Stop, read_bay_plans, report_stop};
 use std::alloc::Global;
 
 /// What is told of the moves between two plans.
-fn figures_of(plans: &BayPlans, changes: &Changes) -> Figures {
+fn figures_of(plans: &BayPlans, changes: &Changes) -> Figures
+    ensures { result ≡ figures_of plans.now changes.now }
+{
+    let (arrival, departure) = (&plans.arrival, &plans.departure);
     Figures {
-        moves: changes.rows().len() as u32,
-        discharged: changes.count(Class::Discharged),
-        loaded: changes.count(Class::Loaded),
-        restowed: changes.count(Class::Restowed),
-        lifted: changes.count(Class::Lifted),
-        staying: changes.count(Class::Staying),
-        unnamed: plans.departure.unnamed(),
-        bundled: plans.arrival.bundled() + plans.departure.bundled(),
-        other: plans.arrival.other() + plans.departure.other(),
+        moves: changes.rows().len() as u64,
+        discharged: u64::from(changes.count(Class::Discharged)),
+        loaded: u64::from(changes.count(Class::Loaded)),
+        restowed: u64::from(changes.count(Class::Restowed)),
+        lifted: u64::from(changes.count(Class::Lifted)),
+        staying: u64::from(changes.count(Class::Staying)),
+        unnamed: u64::from(departure.unnamed()),
+        bundled: u64::from(arrival.bundled()) + u64::from(departure.bundled()),
+        other: u64::from(arrival.other()) + u64::from(departure.other()),
     }
 }
 
 /// Makes the list's file.
-fn store_list<S: Shelf>(changes: &Changes, name: &str, shelf: &mut S) -> Result<(), WriteFault> {
+fn store_list<S: Shelf>(changes: &Changes, name: &str, shelf: &mut S) -> Result<(), WriteFault>
+    ensures ok { OnOk result ((S.Sink.view shelf.new).files
+        ≡ with_file (S.Sink.view shelf.old).files name.now (list_text changes.now.rows)) }
+    ensures err { OnErr result (((S.Sink.view shelf.new).files ≡ (S.Sink.view shelf.old).files)
+        ⊎ ((S.Sink.view shelf.new).files
+        ≡ with_file (S.Sink.view shelf.old).files name.now (list_text changes.now.rows))) }
+    ensures unmade { OnOk result ((S.Sink.view shelf.new).made ≡ None) }
+    ensures counts { Counts (S.Sink.view shelf.old).faults (S.Sink.view shelf.new).faults result }
+    ensures read_faults { (S.Sink.view shelf.new).read_faults ≡ (S.Sink.view shelf.old).read_faults }
+{
     shelf.create(name)?;
     write_list(changes.rows(), shelf)?;
     shelf.finish()?;
     Ok(())
+}
+
+/// The moves between the two plans, and what is told of them.
+fn changes_of(alloc: Global, plans: BayPlans) -> Result<(Changes, Figures), Stop> {
+    let found = changes(alloc, &plans.arrival, &plans.departure);
+    let Ok(changes) = found else {
+        drop(plans);
+        return Err(Stop::OutOfMemory);
+    };
+    let told = figures_of(&plans, &changes);
+    drop(plans);
+    Ok((changes, told))
 }
 
 /// Reads both plans, and writes the list of the moves that lead from the one to the other. All memory is taken before
@@ -36,15 +68,13 @@ fn serve<S: Shelf>(
     alloc: Global,
     asked: &MovesAsked<'_>,
     shelf: &mut S,
-) -> Result<MovesAnswer, Stop> {
+) -> Result<MovesAnswer, Stop>
+    ensures serves { IsListing (moving asked.now) (S.Sink.view shelf.old) (S.Sink.view shelf.new) result }
+    ensures never_falls { (S.Sink.view shelf.old).faults ≤ (S.Sink.view shelf.new).faults }
+    ensures reads_never_fall { (S.Sink.view shelf.old).read_faults ≤ (S.Sink.view shelf.new).read_faults }
+{
     let plans = read_bay_plans(alloc, asked, shelf)?;
-    let found = changes(alloc, &plans.arrival, &plans.departure);
-    let Ok(changes) = found else {
-        drop(plans);
-        return Err(Stop::OutOfMemory);
-    };
-    let told = figures_of(&plans, &changes);
-    drop(plans);
+    let (changes, told) = changes_of(alloc, plans)?;
     let stored = store_list(&changes, asked.stow, shelf);
     drop(changes);
     match stored {
@@ -59,7 +89,14 @@ pub fn list_moves<S: Shelf, K: Sink>(
     asked: &MovesAsked<'_>,
     shelf: &mut S,
     out: &mut K,
-) -> Ended {
+) -> Ended
+    ensures account { IsMovesRun (moving asked.now) (S.Sink.view shelf.old) (S.Sink.view shelf.new)
+        (K.Sink.view out.old) (K.Sink.view out.new) result.status }
+    ensures promises { MovesPromises (moving asked.now) (S.Sink.view shelf.old) (S.Sink.view shelf.new)
+        (K.Sink.view out.old) (K.Sink.view out.new) result.status }
+    ensures never_falls { (S.Sink.view shelf.old).faults ≤ (S.Sink.view shelf.new).faults }
+    ensures reads_never_fall { (S.Sink.view shelf.old).read_faults ≤ (S.Sink.view shelf.new).read_faults }
+{
     match serve(alloc, asked, shelf) {
         Ok(answer) => report(answer, out),
         Err(stop) => report_stop(stop, out),
