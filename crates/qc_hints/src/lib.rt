@@ -19,5 +19,5 @@ pub use facts::counts_decimetres;
 pub use notes::say_notes;
 pub use order::say_idle_pair;
 pub use ship::say_ship;
-pub use stow::say_stow;
+pub use stow::{say_stow, why_no_id, why_wrong_cell};
 pub use usage::say_usage;
