@@ -1,17 +1,20 @@
 //! The command that lists moves.
-ghost use Rattle.std.specs.Prelude.{◌≡◌, ◌⊎◌, ◌≤◌, None, OnErr, OnOk};
+ghost use Rattle.std.specs.Prelude.{◌≡◌, ◌⊎◌, ◌≤◌, None, IfOk, OnErr, OnOk};
+ghost use Rattle.qc_changes.specs.Changes.{AreChanges};
 ghost use Rattle.qc_changes.specs.ListText.{list_text};
 ghost use Rattle.qc_io.specs.Outside.{with_file};
 ghost use Rattle.qc_io.specs.Writes.{Counts};
 ghost use Rattle.qc_run.specs.Inputs.{moving};
-ghost use Rattle.qc_moves_command.specs.Account.{IsListing, IsMovesRun};
+ghost use Rattle.qc_moves_command.specs.Account.{IsListing, IsMovesRun, Writes};
 ghost use Rattle.qc_moves_command.specs.Figures.{figures_of};
 ghost use Rattle.qc_moves_command.specs.Promises.{MovesPromises};
+ghost use Rattle.qc_moves_command.specs.Ready.{IsReady};
 
 use crate::answer::{Figures, MovesAnswer};
 use crate::report::report;
 use qc_changes::{Changes, Class, changes, write_list};
 use qc_io::{Shelf, Sink, WriteFault};
+use qc_num::OutOfMemory;
 use qc_run::{BayPlans, Ended, MovesAsked, Stop, read_bay_plans, report_stop};
 use std::alloc::Global;
 
@@ -50,16 +53,35 @@ fn store_list<S: Shelf>(changes: &Changes, name: &str, shelf: &mut S) -> Result<
     Ok(())
 }
 
-/// The moves between the two plans, and what is told of them.
-fn changes_of(alloc: Global, plans: BayPlans) -> Result<(Changes, Figures), Stop> {
-    let found = changes(alloc, &plans.arrival, &plans.departure);
-    let Ok(changes) = found else {
-        drop(plans);
-        return Err(Stop::OutOfMemory);
-    };
-    let told = figures_of(&plans, &changes);
-    drop(plans);
-    Ok((changes, told))
+/// What is moved between two plans, and what is told of it.
+#[derive(Drop)]
+struct Found {
+    changes: Changes,
+    told: Figures,
+}
+
+/// What is moved between two plans, and what is told of it.
+fn found_between(alloc: Global, plans: &BayPlans) -> Result<Found, OutOfMemory>
+    ensures changes { IfOk result (λ found.
+        AreChanges plans.now.arrival.containers plans.now.departure.containers found.changes) }
+    ensures told { IfOk result (λ found. found.told ≡ figures_of plans.now found.changes) }
+{
+    let changes = changes(alloc, &plans.arrival, &plans.departure)?;
+    let told = figures_of(plans, &changes);
+    Ok(Found { changes, told })
+}
+
+/// Writes the list, and answers what is told of it.
+fn store_found<S: Shelf>(asked: &MovesAsked<'_>, found: &Found, shelf: &mut S) -> MovesAnswer
+    requires { IsReady (moving asked.now) (S.Sink.view shelf.old) found.now }
+    ensures writes { Writes (moving asked.now) (S.Sink.view shelf.old) (S.Sink.view shelf.new) result }
+    ensures read_faults { (S.Sink.view shelf.new).read_faults ≡ (S.Sink.view shelf.old).read_faults }
+    ensures never_falls { (S.Sink.view shelf.old).faults ≤ (S.Sink.view shelf.new).faults }
+{
+    match store_list(&found.changes, asked.stow, shelf) {
+        Ok(()) => MovesAnswer::Listed(found.told),
+        Err(WriteFault) => MovesAnswer::WriteFault,
+    }
 }
 
 /// Reads both plans, and writes the list of the moves that lead from the one to the other. All memory is taken before
@@ -74,13 +96,12 @@ fn serve<S: Shelf>(
     ensures reads_never_fall { (S.Sink.view shelf.old).read_faults ≤ (S.Sink.view shelf.new).read_faults }
 {
     let plans = read_bay_plans(alloc, asked, shelf)?;
-    let (changes, told) = changes_of(alloc, plans)?;
-    let stored = store_list(&changes, asked.stow, shelf);
-    drop(changes);
-    match stored {
-        Ok(()) => Ok(MovesAnswer::Listed(told)),
-        Err(WriteFault) => Ok(MovesAnswer::WriteFault),
-    }
+    let found = found_between(alloc, &plans);
+    drop(plans);
+    let found = found?;
+    let answer = store_found(asked, &found, shelf);
+    drop(found);
+    Ok(answer)
 }
 
 /// Lists the moves that lead from one bay plan to another, in the file of a stowage list, and reports to `out`.
