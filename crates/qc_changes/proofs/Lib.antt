@@ -12,3 +12,4 @@ pub mod PlanLemmas
 pub mod Tally
 pub mod CountLemmas
 pub mod ChangesLemmas
+pub mod ReadLemmas

@@ -11,7 +11,10 @@ ghost use Rattle.qc_changes.specs.Lifts.{HaveLifted};
 ghost use Rattle.qc_changes.specs.MoveList.{AreParts, row_of};
 ghost use Rattle.qc_bayplan.specs.Plan.{AreContainers};
 ghost use Rattle.qc_changes.specs.Changes.{AddUp, AreChanges};
+ghost use Rattle.qc_changes.specs.ListText.{list_text, read_for};
 ghost use Rattle.qc_changes.specs.States.{Leads};
+ghost use Rattle.qc_ship.specs.Ship.{ShipView};
+ghost use Rattle.qc_stow.specs.Stow.{moves_in};
 
 use crate::counts::counts_of;
 use crate::floors::Floors;
@@ -128,6 +131,10 @@ pub fn changes(alloc: Global, first: &BayPlan, second: &BayPlan) -> Result<Chang
     ensures least { IfOk result (λ c. (rows : List Row)
         → Leads (stands first.now.containers) rows (stands second.now.containers)
         → length c.rows ≤ length rows) }
+
+    // The reader of stowage lists makes them of their text, for every ship that has the hatches.
+    ensures reads { IfOk result (λ c. (ship : ShipView)
+        → moves_in ship (list_text c.rows) ≡ read_for ship c.rows) }
 {
     let first = Plan::new(alloc, first.containers())?;
     let second = Plan::new(alloc, second.containers())?;
