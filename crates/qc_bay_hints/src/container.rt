@@ -98,7 +98,9 @@ pub(crate) fn say_cell_kind(page: &mut Page, message: &Message<'_>, number: u32)
     on_container(page, message, number, at, cell.as_slice())
         .text("whose agency is ")
         .shown(agency.as_slice())
-        .text(": it is numbered in a carrier's own way and can't be listed; places by ISO numbers have agency 5")
+        .text(
+            ": it is numbered in a carrier's own way and can't be listed; places by ISO numbers have agency 5",
+        )
         .end()
 }
 
@@ -146,7 +148,9 @@ pub(crate) fn say_id(page: &mut Page, message: &Message<'_>, which: Which, numbe
         .shown(id.as_slice())
         .text(": ")
         .text(why_no_id(id.as_slice()))
-        .text("; an id is 1 to 20 letters, digits and signs of ASCII without commas and double quotes, and ")
+        .text(
+            "; an id is 1 to 20 letters, digits and signs of ASCII without commas and double quotes, and ",
+        )
         .text(match which {
             Which::Arrival => "on arrival each container has one",
             Which::Departure => "one that is left empty for a departure is made from the cell",
@@ -168,7 +172,9 @@ pub(crate) fn say_size(page: &mut Page, message: &Message<'_>, number: u32) {
     on_container(page, message, number, at, cell.as_slice())
         .text("the size is ")
         .shown(size.as_slice())
-        .text("; by its first character 2 is 20 feet, 4 is 40, 9 and L are 45, and G to P are more than 40; 10, 24 and 30 feet can't be listed")
+        .text(
+            "; by its first character 2 is 20 feet, 4 is 40, 9 and L are 45, and G to P are more than 40; 10, 24 and 30 feet can't be listed",
+        )
         .end()
 }
 
@@ -254,12 +260,7 @@ fn is_other(earlier: &Known, later: &Known, by_cell: bool) -> bool {
 }
 
 /// The first container that has the id of a later one or, else, an overlapping cell.
-fn earlier(
-    page: &mut Page,
-    message: &Message<'_>,
-    later: &Known,
-    by_cell: bool,
-) -> Option<Known> {
+fn earlier(page: &mut Page, message: &Message<'_>, later: &Known, by_cell: bool) -> Option<Known> {
     let (mut number, mut place) = (0u32, None);
     for entry in message.segments()? {
         number = number.saturating_add(1);
@@ -297,7 +298,11 @@ pub(crate) fn say_twice(page: &mut Page, message: &Message<'_>, number: u32, by_
         .shown(later.id.as_slice())
         .text(" at ")
         .shown(later.cell.as_slice())
-        .text(if by_cell { " overlaps " } else { " has the id of " })
+        .text(if by_cell {
+            " overlaps "
+        } else {
+            " has the id of "
+        })
         .shown(other.id.as_slice())
         .text(" at ")
         .shown(other.cell.as_slice())

@@ -7,13 +7,7 @@ use qc_edifact::Segment;
 use qc_page::Page;
 
 /// Says what is wrong with a bay plan, whose first fault is this one.
-pub fn say_bay_plan(
-    page: &mut Page,
-    file: &str,
-    bytes: &[u8],
-    which: Which,
-    fault: BayPlanFault,
-) {
+pub fn say_bay_plan(page: &mut Page, file: &str, bytes: &[u8], which: Which, fault: BayPlanFault) {
     let message = Message::of(page.alloc(), file, bytes);
     if let Some(message) = page.unless_short(message) {
         say_fault(page, &message, which, fault)
@@ -27,16 +21,22 @@ fn say_fault(page: &mut Page, message: &Message<'_>, which: Which, fault: BayPla
         BayPlanKind::Una => say_signs(page, message),
         BayPlanKind::After => message
             .on(page, number)
-            .text("the plan is over with the segment before it, and a file holds one plan alone: delete what follows")
+            .text(
+                "the plan is over with the segment before it, and a file holds one plan alone: delete what follows",
+            )
             .end(),
         BayPlanKind::Cut => say_cut(page, message, number),
         BayPlanKind::TooLong => message
             .on(page, number)
-            .text("nothing ends it within 4096 bytes: the file has other service characters than its UNA tells, or it is no BAPLIE")
+            .text(
+                "nothing ends it within 4096 bytes: the file has other service characters than its UNA tells, or it is no BAPLIE",
+            )
             .end(),
         BayPlanKind::Tag => message
             .on(page, number)
-            .text("it doesn't begin with three capital letters: a ' before it has no ? ahead and so ended a segment, or the file is of another kind")
+            .text(
+                "it doesn't begin with three capital letters: a ' before it has no ? ahead and so ended a segment, or the file is of another kind",
+            )
             .end(),
         BayPlanKind::Place => say_place(page, message, number),
         BayPlanKind::NotBaplie => say_not_baplie(page, message, number),
@@ -44,7 +44,9 @@ fn say_fault(page: &mut Page, message: &Message<'_>, which: Which, fault: BayPla
         BayPlanKind::Count => say_count(page, message, number),
         BayPlanKind::NoPlace => message
             .on(page, number)
-            .text("it is a container ahead of any place: each stands behind the LOC+147 that tells its cell")
+            .text(
+                "it is a container ahead of any place: each stands behind the LOC+147 that tells its cell",
+            )
             .end(),
         BayPlanKind::TooMany => message
             .on(page, number)
@@ -68,15 +70,20 @@ fn say_container(page: &mut Page, message: &Message<'_>, which: Which, fault: Ba
         _ => return,
     }
     page.line()
-        .text("a container that is to be left out gets BB for CN in its EQD: its place then counts as other, and the count in UNT still holds")
+        .text(
+            "a container that is to be left out gets BB for CN in its EQD: its place then counts as other, and the count in UNT still holds",
+        )
         .end()
 }
 
 /// Why six bytes can't serve as service signs.
 fn why_no_signs(signs: &[u8]) -> &'static str {
-    let (Some(component), Some(element), Some(release), Some(end)) =
-        (signs.first(), signs.get(1), signs.get(3), signs.get(5))
-    else {
+    let (Some(component), Some(element), Some(release), Some(end)) = (
+        signs.first(),
+        signs.get(1),
+        signs.get(3),
+        signs.get(5),
+    ) else {
         return "there are fewer than six";
     };
     if component == element || component == end || element == end {
@@ -120,17 +127,15 @@ fn say_place(page: &mut Page, message: &Message<'_>, number: u32) {
     let Some(segment) = message.segment(number) else {
         return;
     };
-    message.on(page, number).text(
-        if segment.has(0, 0, b"UNH") || segment.has(0, 0, b"UNB") {
-            "a second message begins, and a file holds one plan alone: cut it in two"
-        } else if segment.has(0, 0, b"UNG") || segment.has(0, 0, b"UNE") {
-            "it is of a group of messages: have the message sent without groups"
-        } else if segment.has(0, 0, b"UNZ") {
-            "the message isn't over, which UNT ends"
-        } else {
-            "it stands outside of the message, which UNH begins and UNT ends"
-        },
-    );
+    message.on(page, number).text(if segment.has(0, 0, b"UNH") || segment.has(0, 0, b"UNB") {
+        "a second message begins, and a file holds one plan alone: cut it in two"
+    } else if segment.has(0, 0, b"UNG") || segment.has(0, 0, b"UNE") {
+        "it is of a group of messages: have the message sent without groups"
+    } else if segment.has(0, 0, b"UNZ") {
+        "the message isn't over, which UNT ends"
+    } else {
+        "it stands outside of the message, which UNH begins and UNT ends"
+    });
     page.end()
 }
 

@@ -25,7 +25,12 @@ pub fn say_moves(page: &mut Page, arrival: (&str, &[u8]), departure: (&str, &[u8
     say_decks(page, &first, &both);
     say_unnamed(page, &second, &both);
     say_besides(page, &first, both.arrival.bundled(), both.arrival.other());
-    say_besides(page, &second, both.departure.bundled(), both.departure.other());
+    say_besides(
+        page,
+        &second,
+        both.departure.bundled(),
+        both.departure.other(),
+    );
     say_lengths(page, &second, &both);
     say_alike(page, &second, &both);
     say_restows(page, &both);
@@ -43,7 +48,9 @@ fn say_part(page: &mut Page, message: &Message<'_>) {
         {
             return message
                 .note(page)
-                .text("its document code is 659, as of a part of a plan; the list takes it for the plan of the whole ship")
+                .text(
+                    "its document code is 659, as of a part of a plan; the list takes it for the plan of the whole ship",
+                )
                 .end();
         }
     }
@@ -60,7 +67,9 @@ fn say_strangers(page: &mut Page, message: &Message<'_>, both: &Both) {
     {
         message
             .note(page)
-            .text("no id of it is in the plan of the arrival: are both of one ship, and is this one more than what is loaded?")
+            .text(
+                "no id of it is in the plan of the arrival: are both of one ship, and is this one more than what is loaded?",
+            )
             .end()
     }
 }
@@ -75,7 +84,9 @@ fn say_decks(page: &mut Page, message: &Message<'_>, both: &Both) {
         message
             .note(page)
             .count(count)
-            .text(" stay on deck at bays at which the hold is worked: a plan doesn't tell the covers, so add a D and an L row for each that stands on a cover to be opened, and for what is over it")
+            .text(
+                " stay on deck at bays at which the hold is worked: a plan doesn't tell the covers, so add a D and an L row for each that stands on a cover to be opened, and for what is over it",
+            )
             .end()
     }
 }
@@ -109,7 +120,9 @@ fn say_besides(page: &mut Page, message: &Message<'_>, bundled: u32, other: u32)
         message
             .note(page)
             .count(u64::from(bundled))
-            .text(" more are bundled with the first of their place, and move with it: they have no row")
+            .text(
+                " more are bundled with the first of their place, and move with it: they have no row",
+            )
             .end()
     }
     if other > 0 {
@@ -200,7 +213,9 @@ fn say_restows(page: &mut Page, both: &Both) {
         page.line()
             .text("note: ")
             .count(u64::from(count))
-            .text(" change their places: where that is from hatch to hatch, the ship file wants restows = \"ordered\"")
+            .text(
+                " change their places: where that is from hatch to hatch, the ship file wants restows = \"ordered\"",
+            )
             .end()
     }
 }

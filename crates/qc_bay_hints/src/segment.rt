@@ -5,7 +5,6 @@ use qc_num::{Bytes, OutOfMemory};
 use qc_page::{Page, Place};
 use std::alloc::Global;
 
-
 /// The service signs by which segments end.
 #[derive(Clone, Copy)]
 struct Ends {
@@ -72,7 +71,10 @@ fn length_of(text: &[u8], ends: Ends) -> usize {
 fn line_behind(bytes: &[u8], count: usize) -> usize {
     let mut line = 1usize;
     let mut left = count;
-    for byte in bytes.strip_prefix([0xEF, 0xBB, 0xBF].as_slice()).unwrap_or(bytes) {
+    for byte in bytes
+        .strip_prefix([0xEF, 0xBB, 0xBF].as_slice())
+        .unwrap_or(bytes)
+    {
         if *byte == b'\n' {
             line = line.saturating_add(1);
         } else if *byte != b'\r' {

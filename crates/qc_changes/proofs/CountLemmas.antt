@@ -54,21 +54,21 @@ one_hit t id (b ∷ bs) apart = elim (cases_Bool (bytes_eq b.id id)) [
 pub meet : (t : CellView → CellView → Bool) (first second : List Container) → AreApart first → AreApart second
     → tally (λ c. hits (t c.cell) (stands second c.id)) first ≡ tally (λ c. hits (λ x. t x c.cell) (stands first c.id)) second
 meet t [] second apart apart' = sym (tally_none (λ c. hits (λ x. t x c.cell) (stands [] c.id)) second (each_of (λ (c : Container). hits (λ x. t x c.cell) (stands [] c.id) ≡ false) second (λ c at. refl)))
-meet t (a ∷ as) second apart apart' =
-    front (hits (t a.cell) (stands second a.id)) (tally (λ c. hits (t c.cell) (stands second c.id)) as)
-    ∙ ap (λ (n : ℕ). n + tally (λ c. hits (t c.cell) (stands second c.id)) as) (sym (one_hit (t a.cell) a.id second apart'))
-    ∙ ap (λ (n : ℕ). tally (λ c. bytes_eq a.id c.id && t a.cell c.cell) second + n) (meet t as second apart.1 apart')
-    ∙ tally_sum (λ (c : Container). bytes_eq a.id c.id && t a.cell c.cell) (λ c. hits (λ x. t x c.cell) (stands as c.id)) (λ c. hits (λ x. t x c.cell) (stands (a ∷ as) c.id)) second each
+meet t (a ∷ cs) second apart apart' =
+    front (hits (t a.cell) (stands second a.id)) (tally (λ c. hits (t c.cell) (stands second c.id)) cs)
+    ∙ ap (λ (n : ℕ). n + tally (λ c. hits (t c.cell) (stands second c.id)) cs) (sym (one_hit (t a.cell) a.id second apart'))
+    ∙ ap (λ (n : ℕ). tally (λ c. bytes_eq a.id c.id && t a.cell c.cell) second + n) (meet t cs second apart.1 apart')
+    ∙ tally_sum (λ (c : Container). bytes_eq a.id c.id && t a.cell c.cell) (λ c. hits (λ x. t x c.cell) (stands cs c.id)) (λ c. hits (λ x. t x c.cell) (stands (a ∷ cs) c.id)) second each
   where
     front : (b : Bool) (n : ℕ) → add b n ≡ add b 0 + n
     front true n = refl
     front false n = refl
 
-    each : (c : Container) → ((hits (λ x. t x c.cell) (stands as c.id) ≡ false) × (hits (λ x. t x c.cell) (stands (a ∷ as) c.id) ≡ (bytes_eq a.id c.id && t a.cell c.cell)))
-        ⊎ (((bytes_eq a.id c.id && t a.cell c.cell) ≡ false) × (hits (λ x. t x c.cell) (stands (a ∷ as) c.id) ≡ hits (λ x. t x c.cell) (stands as c.id)))
+    each : (c : Container) → ((hits (λ x. t x c.cell) (stands cs c.id) ≡ false) × (hits (λ x. t x c.cell) (stands (a ∷ cs) c.id) ≡ (bytes_eq a.id c.id && t a.cell c.cell)))
+        ⊎ (((bytes_eq a.id c.id && t a.cell c.cell) ≡ false) × (hits (λ x. t x c.cell) (stands (a ∷ cs) c.id) ≡ hits (λ x. t x c.cell) (stands cs c.id)))
     each c = elim (cases_Bool (bytes_eq a.id c.id)) [
       | inl own ↦
-          let none : stands as c.id ≡ None = stands_none as c.id (subst (λ (i : List ℕ). Each (λ (d : Container). i ≢ d.id) as) (same_id a.id c.id own) apart.0) in
+          let none : stands cs c.id ≡ None = stands_none cs c.id (subst (λ (i : List ℕ). Each (λ (d : Container). i ≢ d.id) cs) (same_id a.id c.id own) apart.0) in
           inl (rw none refl, rw own refl)
       | inr other ↦ inr (rw other refl, rw other refl)
     ]

@@ -30,6 +30,7 @@ use Rattle.qc_stow.specs.Rows.{row_in}
 use Rattle.qc_stow.specs.Stow.{moves_in, moves_of, next_row, numbered, over_hatch}
 use Rattle.qc_stow.specs.declared.columns.Columns.{Columns}
 use Rattle.qc_stow.specs.declared.fault.StowFault.{StowFault}
+use Rattle.qc_stow.specs.declared.fault.StowKind.TheVariants as kind
 use Rattle.qc_stow.specs.declared.row.Move.{Move}
 use Rattle.qc_stow.specs.declared.row.Move.TheVariants.{Discharge, Load}
 use Rattle.qc_stow.specs.declared.row.Row.{Row}
@@ -168,26 +169,21 @@ text_records rows all =
 
 -- ---- the rows of these records
 
+length_fits : (b : Bool) → bytes_eq (cond b (codes "40") (codes "20")) (cond b (codes "40") (codes "20")) ≡ true
+length_fits true = refl
+length_fits false = refl
+
 abbrev columns : Columns
 columns = record { id = 0; kind = 1; cell = 2; length = 3; all = 4 }
 
-row_back : (row : Row) → IsPlain row → row_in columns (line_fields row) ≡ Ok row
+fields_back : (id : List ℕ) (k : Move) (cell : CellView) → is_id id ≡ true → IsCell cell
+    → row_in columns (id ∷ kind_field k ∷ cell_text cell ∷ stow.length_text cell.bay ∷ []) ≡ Ok (record { id = id; kind = k; cell = cell })
 unfolding kind_field
-row_back row plain = by row.kind refl
-  where
-    fits : (b : Bool) → bytes_eq (cond b (codes "40") (codes "20")) (cond b (codes "40") (codes "20")) ≡ true
-    fits true = refl
-    fits false = refl
+fields_back id Discharge cell id_is is = rw (id_is, cell_back cell is, length_fits (cell.bay % 2 == 0)) refl
+fields_back id Load cell id_is is = rw (id_is, cell_back cell is, length_fits (cell.bay % 2 == 0)) refl
 
-    by : (k : Move) → row.kind ≡ k → row_in columns (line_fields row) ≡ Ok row
-    by Discharge is = rw (plain.id, is, cell_back row.cell plain.cell, fits (row.cell.bay % 2 == 0)) (ap Ok (kind_is Discharge is))
-      where
-        kind_is : (k : Move) → row.kind ≡ k → record { id = row.id; kind = k; cell = row.cell } ≡ row
-        kind_is k is = ap (λ (m : Move). let r : Row = record { id = row.id; kind = m; cell = row.cell } in r) (sym is)
-    by Load is = rw (plain.id, is, cell_back row.cell plain.cell, fits (row.cell.bay % 2 == 0)) (ap Ok (kind_is Load is))
-      where
-        kind_is : (k : Move) → row.kind ≡ k → record { id = row.id; kind = k; cell = row.cell } ≡ row
-        kind_is k is = ap (λ (m : Move). let r : Row = record { id = row.id; kind = m; cell = row.cell } in r) (sym is)
+row_back : (row : Row) → IsPlain row → row_in columns (line_fields row) ≡ Ok row
+row_back row plain = fields_back row.id row.kind row.cell plain.id plain.cell
 
 -- a later row leaves an earlier one its id and its cell
 record Leaves (earlier row : Row) : Type 0 where
@@ -220,7 +216,7 @@ module _ (ship : ShipView) where
   hatch_row : (earlier : List Row) (row : Row) → (judge earlier row ≡ Ok row) ⊎ ((why : StowFault) × (judge earlier row ≡ Err why))
   hatch_row earlier row = elim (cases_Bool (is_some (place_of_bay ship row.cell.bay))) [
     | inl there ↦ inl (rw there refl)
-    | inr none ↦ inr (_, rw none refl)
+    | inr none ↦ inr (record { number = length earlier + 2; kind = kind.NoHatch }, rw none refl)
   ]
 
   each_back : (earlier rows : List Row) → length earlier + length rows ≤ most_moves → Each IsPlain rows → Each (LeavesAll earlier) rows

@@ -106,7 +106,11 @@ fn fill(
 }
 
 /// The moves that lead from one plan to another, and how many containers have each class.
-fn changes_between(alloc: Global, first: &Plan<'_>, second: &Plan<'_>) -> Result<Changes, OutOfMemory>
+fn changes_between(
+    alloc: Global,
+    first: &Plan<'_>,
+    second: &Plan<'_>,
+) -> Result<Changes, OutOfMemory>
     requires first { AreContainers first.now }
     requires second { AreContainers second.now }
     ensures { IfOk result (AreChanges first.now second.now) }

@@ -1,6 +1,6 @@
 -- What a list of moves leaves in its file, said from before its plans were read.
 use Rattle.std.proofs.Common.{◌≡◌, ◌∙◌, ℕ, Option, Result, Ok, Err, ap, inl, inr, subst, sym}
-use Rattle.qc_changes.specs.Changes.{AreChanges, ChangesView}
+use Rattle.qc_changes.specs.Changes.{ChangesView}
 use Rattle.qc_changes.specs.ListText.{list_text}
 use Rattle.qc_io.specs.Outside.{Files, Rose, View, with_file}
 use Rattle.qc_run.specs.declared.bay_plans.BayPlans.{BayPlans}
@@ -9,7 +9,7 @@ use Rattle.qc_run.specs.Inputs.{Moving, plans_named}
 use Rattle.qc_run.specs.Steps.{ComesTo}
 use Rattle.qc_moves_command.specs.declared.answer.MovesAnswer.{MovesAnswer}
 use Rattle.qc_moves_command.specs.declared.answer.MovesAnswer.TheVariants as answer
-use Rattle.qc_moves_command.specs.Account.{AreFound, IsStored, Writes}
+use Rattle.qc_moves_command.specs.Account.{AreFound, IsBetween, IsStored, Writes}
 
 module _ (asked : Moving) (before mid : View) (files : mid.files ≡ before.files) where
   found_before : AreFound asked mid → AreFound asked before
@@ -17,7 +17,7 @@ module _ (asked : Moving) (before mid : View) (files : mid.files ≡ before.file
     plans = f.plans;
     due = subst (λ (held : Option Files). ComesTo bay_plans_due (plans_named asked) held (Ok f.plans)) files f.due;
     changes = f.changes;
-    are = f.are;
+    between = f.between;
   }
 
   stored_before : (after : View) (f : AreFound asked mid) → IsStored asked mid after f
@@ -42,10 +42,10 @@ module _ (asked : Moving) (before mid : View) (files : mid.files ≡ before.file
 
   -- what was found, seen by the shelf as it was left behind the reading
   pub found_behind : (plans : BayPlans) → ComesTo bay_plans_due (plans_named asked) before.files (Ok plans)
-      → (c : ChangesView) → AreChanges plans.arrival.containers plans.departure.containers c → AreFound asked mid
-  found_behind plans due c are = record {
+      → (c : ChangesView) → IsBetween plans c → AreFound asked mid
+  found_behind plans due c between = record {
     plans = plans;
     due = subst (λ (held : Option Files). ComesTo bay_plans_due (plans_named asked) held (Ok plans)) (sym files) due;
     changes = c;
-    are = are;
+    between = between;
   }

@@ -1,7 +1,9 @@
 -- public: the account of a list of moves: what its answer says of the files.
-use Rattle.std.specs.Prelude.{◌≡◌, ◌⊎◌, None, Result, Ok, Err}
-use Rattle.qc_changes.specs.Changes.{AreChanges, ChangesView}
-use Rattle.qc_changes.specs.ListText.{list_text}
+use Rattle.std.specs.Prelude.{◌≡◌, ◌≤◌, ◌⊎◌, List, length, None, Result, Ok, Err}
+use Rattle.qc_changes.specs.Changes.{AddUp, AreChanges, ChangesView}
+use Rattle.qc_changes.specs.Classes.{stands}
+use Rattle.qc_changes.specs.ListText.{list_text, read_for}
+use Rattle.qc_changes.specs.States.{Leads}
 use Rattle.qc_io.specs.Outside.{Rose, View, with_file}
 use Rattle.qc_run.specs.declared.bay_plans.BayPlans.{BayPlans}
 use Rattle.qc_run.specs.declared.refusal.Stop.{Stop}
@@ -10,17 +12,30 @@ use Rattle.qc_run.specs.Due.{bay_plans_due}
 use Rattle.qc_run.specs.Inputs.{Moving, plans_named}
 use Rattle.qc_run.specs.Reports.{IsRun, Prints, PrintsPart}
 use Rattle.qc_run.specs.Steps.{ComesTo, MayStop, Stops}
+use Rattle.qc_ship.specs.Ship.{ShipView}
+use Rattle.qc_stow.specs.declared.row.Row.{Row}
+use Rattle.qc_stow.specs.Stow.{moves_in}
 use Rattle.qc_moves_command.specs.declared.answer.Figures.{Figures}
 use Rattle.qc_moves_command.specs.declared.answer.MovesAnswer.{MovesAnswer}
 use Rattle.qc_moves_command.specs.declared.answer.MovesAnswer.TheVariants as answer
 use Rattle.qc_moves_command.specs.Figures.{figures_of, moves_status, moves_text}
+
+-- this leads from one plan to the other: it is the list of the moves between them, the moves can be made one after the
+-- other, no list that leads there has fewer, and it is read as these moves for every ship that has the hatches
+pub record IsBetween (plans : BayPlans) (c : ChangesView) : Type 0 where
+  pub are : AreChanges plans.arrival.containers plans.departure.containers c
+  pub sums : AddUp plans.arrival.containers plans.departure.containers c
+  pub leads : Leads (stands plans.arrival.containers) c.rows (stands plans.departure.containers)
+  pub least : (rows : List Row) → Leads (stands plans.arrival.containers) rows (stands plans.departure.containers)
+      → length c.rows ≤ length rows
+  pub reads : (ship : ShipView) → moves_in ship (list_text c.rows) ≡ read_for ship c.rows
 
 -- both plans were read, and this leads from the one to the other
 pub record AreFound (asked : Moving) (before : View) : Type 0 where
   pub plans : BayPlans
   pub due : ComesTo bay_plans_due (plans_named asked) before.files (Ok plans)
   pub changes : ChangesView
-  pub are : AreChanges plans.arrival.containers plans.departure.containers changes
+  pub between : IsBetween plans changes
 
 -- the list's file holds its text, where the shelf tells its files; all others are as they were
 abbrev pub IsStored : (asked : Moving) (before after : View) → AreFound asked before → Type 0

@@ -1,11 +1,10 @@
 //! The command that lists moves.
 ghost use Rattle.std.specs.Prelude.{◌≡◌, ◌⊎◌, ◌≤◌, None, IfOk, OnErr, OnOk};
-ghost use Rattle.qc_changes.specs.Changes.{AreChanges};
 ghost use Rattle.qc_changes.specs.ListText.{list_text};
 ghost use Rattle.qc_io.specs.Outside.{with_file};
 ghost use Rattle.qc_io.specs.Writes.{Counts};
 ghost use Rattle.qc_run.specs.Inputs.{moving};
-ghost use Rattle.qc_moves_command.specs.Account.{IsListing, IsMovesRun, Writes};
+ghost use Rattle.qc_moves_command.specs.Account.{IsBetween, IsListing, IsMovesRun, Writes};
 ghost use Rattle.qc_moves_command.specs.Figures.{figures_of};
 ghost use Rattle.qc_moves_command.specs.Promises.{MovesPromises};
 ghost use Rattle.qc_moves_command.specs.Ready.{IsReady};
@@ -62,8 +61,7 @@ struct Found {
 
 /// What is moved between two plans, and what is told of it.
 fn found_between(alloc: Global, plans: &BayPlans) -> Result<Found, OutOfMemory>
-    ensures changes { IfOk result (λ found.
-        AreChanges plans.now.arrival.containers plans.now.departure.containers found.changes) }
+    ensures between { IfOk result (λ found. IsBetween plans.now found.changes) }
     ensures told { IfOk result (λ found. found.told ≡ figures_of plans.now found.changes) }
 {
     let changes = changes(alloc, &plans.arrival, &plans.departure)?;

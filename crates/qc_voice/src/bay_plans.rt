@@ -44,12 +44,7 @@ fn say_of(page: &mut Page, asked: &MovesAsked<'_>, file: Input, why: &str) {
 }
 
 /// Says why a list of moves wasn't made.
-fn say_refusal<S: Shelf>(
-    page: &mut Page,
-    shelf: &mut S,
-    asked: &MovesAsked<'_>,
-    why: Refusal,
-)
+fn say_refusal<S: Shelf>(page: &mut Page, shelf: &mut S, asked: &MovesAsked<'_>, why: Refusal)
     ensures { LeavesFiles (S.Sink.view shelf.old) (S.Sink.view shelf.new) }
 {
     match why {
@@ -70,7 +65,11 @@ fn say_made<S: Shelf>(page: &mut Page, shelf: &mut S, asked: &MovesAsked<'_>)
     let Some((departure, second)) = again(page, shelf, Some(asked.departure)) else {
         return;
     };
-    say_moves(page, (arrival, first.as_slice()), (departure, second.as_slice()))
+    say_moves(
+        page,
+        (arrival, first.as_slice()),
+        (departure, second.as_slice()),
+    )
 }
 
 /// Says what there is to say of a list of moves.

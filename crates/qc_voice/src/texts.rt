@@ -33,7 +33,10 @@ pub(crate) fn names_of<'a>(request: &Request<'a>) -> Option<Names<'a>> {
             written: Some(asked.plan),
         }),
         Request::Moves(_)
-        | Request::Make { .. } | Request::Help(_) | Request::Version | Request::Usage => None,
+        | Request::Make { .. }
+        | Request::Help(_)
+        | Request::Version
+        | Request::Usage => None,
     }
 }
 

@@ -37,10 +37,12 @@ fn word_of(file: Input) -> &'static str {
 
 /// What is said of a file that couldn't be read, and of one that is too large.
 pub(crate) const MISSING: &str = ", isn't there or can't be read";
+
 pub(crate) const LARGE: &str = ", has more than 8388608 bytes, and may have no more";
 
 /// What is said of a file that can't be read again to show its fault.
-pub(crate) const FAULT_UNSHOWN: &str = ", has the fault that was reported, and can't be read again to show it";
+pub(crate) const FAULT_UNSHOWN: &str =
+    ", has the fault that was reported, and can't be read again to show it";
 
 /// Says which file couldn't be read, or is too large, by its word in the usage text and its name.
 pub(crate) fn say_named(page: &mut Page, name: &str, file: Input, why: &str) {
@@ -166,15 +168,8 @@ fn say_refusal<S: Shelf>(page: &mut Page, shelf: &mut S, inputs: &Inputs<'_>, wh
 {
     match why {
         Refusal::Usage => {}
-        Refusal::ReadFault(file) => {
-            say_unread(page, inputs, file, MISSING)
-        }
-        Refusal::TooLarge(file) => say_unread(
-            page,
-            inputs,
-            file,
-            LARGE,
-        ),
+        Refusal::ReadFault(file) => { say_unread(page, inputs, file, MISSING) }
+        Refusal::TooLarge(file) => say_unread(page, inputs, file, LARGE),
         Refusal::BadShip(fault) => say_bad_ship(page, shelf, inputs, fault),
         Refusal::BadStow(fault) => say_bad_stow(page, shelf, inputs, fault),
         Refusal::BadPlan(fault) => say_bad_plan(page, shelf, inputs, fault),
