@@ -3,6 +3,9 @@ use Rattle.std.proofs.Common.{◌≡◌, ◌⊎◌, ℕ, List, Option, None, Som
 use Rattle.std.proofs.lemmas.Bool.{cond_both}
 use Rattle.qc_num.specs.Reading.{◌>>=◌, with_fault}
 use Rattle.qc_io.specs.Outside.{Files, View}
+use Rattle.qc_bayplan.specs.Reading.{bay_plan_in}
+use Rattle.qc_bayplan.specs.declared.plan.Which.{Which}
+use Rattle.qc_bayplan.specs.declared.plan.Which.TheVariants.{Arrival, Departure}
 use Rattle.qc_gantt.specs.Plan.{plan_in}
 use Rattle.qc_model.specs.declared.turn.Turn.{Turn}
 use Rattle.qc_model.specs.Instance.{InstanceView, with_turn}
@@ -19,11 +22,11 @@ use Rattle.qc_run.specs.declared.refusal.Refusal.{Refusal}
 use Rattle.qc_run.specs.declared.refusal.Refusal.TheVariants as refusal
 use Rattle.qc_run.specs.declared.refusal.Stop.{Stop}
 use Rattle.qc_run.specs.declared.refusal.Stop.TheVariants as stop
-use Rattle.qc_run.specs.Inputs.{Names}
+use Rattle.qc_run.specs.Inputs.{IsWhole, Moving, Names, input_of, name_of, plans_named}
 use Rattle.qc_ship.specs.Keys.{fault}
 use Rattle.qc_ship.specs.declared.fault.Key.TheVariants as key
 use Rattle.qc_ship.specs.declared.fault.ShipKind.TheVariants as kind
-use Rattle.qc_run.specs.Due.{Contents, without, file_limit, input_due, instance_due, job_due, moves_due, order_due, contents_in, schedule_due, ship_due, within_limit}
+use Rattle.qc_run.specs.Due.{Contents, without, bay_plan_due, file_limit, input_due, instance_due, job_due, moves_due, order_due, contents_in, schedule_due, ship_due, within_limit}
 use Rattle.qc_run.specs.Steps.{ComesTo, IsDue, IsStep, Stops}
 use Rattle.qc_run.proofs.DueLemmas.{stops_from}
 
@@ -226,6 +229,18 @@ instance_steady =
     then_steady ship_due (λ ship contents. moves_due ship contents >>= λ rows. order_due ship rows >>= λ inst. Ok (with_turn inst contents.turn)) ship_steady
     (λ ship. then_steady (moves_due ship) (λ rows contents. order_due ship rows >>= λ inst. Ok (with_turn inst contents.turn)) (moves_steady ship)
     (λ rows file contents. inl (ap (λ (turn : Turn). order_due ship rows >>= λ inst. Ok (with_turn inst turn)) (same_turn file contents))))
+
+-- a bay plan's file is named, and is read whole
+pub plan_named : (which : Which) (asked : Moving) → IsSome (name_of (input_of which) (plans_named asked))
+plan_named Arrival asked = refl
+plan_named Departure asked = refl
+
+pub plan_whole : (which : Which) (asked : Moving) → IsWhole (input_of which) (plans_named asked)
+plan_whole Arrival asked = refl
+plan_whole Departure asked = refl
+
+pub plan_steady : (which : Which) → Steady (bay_plan_due which)
+plan_steady which = then_steady (input_due (input_of which)) (λ bytes _. with_fault (refusal.BadBayPlan which) (bay_plan_in which bytes)) (input_steady (input_of which)) (λ bytes file contents. inl refl)
 
 -- ---- no fault of a tree or of a log comes of the other files
 
