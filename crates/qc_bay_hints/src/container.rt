@@ -1,10 +1,10 @@
 //! Faults of containers, and of the places where they stand.
 
-use crate::segment::{Message, part_of};
+use crate::segment::{Message, id_of, part_of};
 use qc_bayplan::Which;
 use qc_edifact::Segment;
 use qc_hints::{why_no_id, why_wrong_cell};
-use qc_num::{Bytes, OutOfMemory};
+use qc_num::Bytes;
 use qc_page::Page;
 use qc_ship::{Cell, CellFault};
 
@@ -38,25 +38,9 @@ fn place_before(message: &Message<'_>, number: u32) -> u32 {
     last
 }
 
-/// The text of a cell, without blanks at both ends.
+/// The text of a cell, as it is written.
 fn cell_text(page: &mut Page, segment: &Segment<'_>) -> Option<Bytes> {
     part_of(page, segment, 2, 0)
-}
-
-/// The text without blanks at both ends.
-fn trimmed(text: &[u8]) -> &[u8] {
-    let mut rest = text;
-    while let Some((first, behind)) = rest.split_first()
-        && *first == b' '
-    {
-        rest = behind;
-    }
-    while let Some((last, front)) = rest.split_last()
-        && *last == b' '
-    {
-        rest = front;
-    }
-    rest
 }
 
 /// The cell of the place that is open at a segment, as it is written, with the number of the segment that tells it.
@@ -109,7 +93,7 @@ pub(crate) fn say_cell(page: &mut Page, message: &Message<'_>, number: u32, faul
     let Some((at, cell)) = cell_at(page, message, number) else {
         return;
     };
-    let text = trimmed(cell.as_slice());
+    let text = cell.as_slice().trim_ascii();
     on_container(page, message, number, at, cell.as_slice())
         .text("which is no cell: ")
         .text(if text.is_empty() {
@@ -121,17 +105,6 @@ pub(crate) fn say_cell(page: &mut Page, message: &Message<'_>, number: u32, faul
         .end()
 }
 
-/// The id of a container, without blanks.
-fn id_text(page: &mut Page, segment: &Segment<'_>) -> Option<Bytes> {
-    let alloc = page.alloc();
-    let part = segment.part(2, 0);
-    let id = match part.filter(|b| *b != b' ').collect(alloc) {
-        Ok(bytes) => Ok(Bytes::of(bytes)),
-        Err(_) => Err(OutOfMemory),
-    };
-    page.unless_short(id)
-}
-
 /// Says what is wrong with an id.
 pub(crate) fn say_id(page: &mut Page, message: &Message<'_>, which: Which, number: u32) {
     let Some((at, cell)) = cell_at(page, message, number) else {
@@ -140,7 +113,7 @@ pub(crate) fn say_id(page: &mut Page, message: &Message<'_>, which: Which, numbe
     let Some(segment) = message.segment(number) else {
         return;
     };
-    let Some(id) = id_text(page, &segment) else {
+    let Some(id) = id_of(page, &segment) else {
         return;
     };
     on_container(page, message, number, at, cell.as_slice())
@@ -193,7 +166,7 @@ pub(crate) fn say_length(page: &mut Page, message: &Message<'_>, number: u32) {
         .text("the size is ")
         .shown(size.as_slice())
         .text(", and the bay is one of ")
-        .text(match Cell::read(trimmed(cell.as_slice())) {
+        .text(match Cell::read(cell.as_slice().trim_ascii()) {
             Ok(cell) if cell.is_forty() => "40 feet, as even ones are",
             _ => "20 feet, as odd ones are",
         })
@@ -228,7 +201,7 @@ impl Known {
 
 /// Whether a text is that of a cell, which may be written with more zeros.
 fn is_text_of(text: &[u8], cell: &[u8]) -> bool {
-    match Cell::read(trimmed(cell)) {
+    match Cell::read(cell.trim_ascii()) {
         Ok(cell) => cell.write().as_bytes() == text,
         Err(_) => false,
     }
@@ -236,7 +209,7 @@ fn is_text_of(text: &[u8], cell: &[u8]) -> bool {
 
 /// Whether two texts are overlapping cells.
 fn overlap(one: &[u8], other: &[u8]) -> bool {
-    match (Cell::read(trimmed(one)), Cell::read(trimmed(other))) {
+    match (Cell::read(one.trim_ascii()), Cell::read(other.trim_ascii())) {
         (Ok(one), Ok(other)) => one.overlaps(&other),
         _ => false,
     }
@@ -246,7 +219,7 @@ fn overlap(one: &[u8], other: &[u8]) -> bool {
 fn known_at(page: &mut Page, message: &Message<'_>, number: u32) -> Option<Known> {
     let (_, cell) = cell_at(page, message, number)?;
     let segment = message.segment(number)?;
-    let id = id_text(page, &segment)?;
+    let id = id_of(page, &segment)?;
     Some(Known { number, id, cell })
 }
 
@@ -275,7 +248,7 @@ fn earlier(page: &mut Page, message: &Message<'_>, later: &Known, by_cell: bool)
         } else if tells_container(&segment)
             && let Some(cell) = place.take()
         {
-            let id = id_text(page, &segment)?;
+            let id = id_of(page, &segment)?;
             let known = Known { number, id, cell };
             if is_other(&known, later, by_cell) {
                 return Some(known);

@@ -167,16 +167,35 @@ impl<'a> Message<'a> {
 }
 
 /// The bytes of a component of a segment.
+fn component(
+    alloc: Global,
+    segment: &Segment<'_>,
+    element: u16,
+    component: u16,
+) -> Result<Bytes, OutOfMemory> {
+    Ok(Bytes::of(segment.part(element, component).collect(alloc)?))
+}
+
+/// The bytes of a component of a segment, where there was memory for them.
 pub(crate) fn part_of(
     page: &mut Page,
     segment: &Segment<'_>,
     element: u16,
-    component: u16,
+    at: u16,
 ) -> Option<Bytes> {
-    let alloc = page.alloc();
-    let part = match segment.part(element, component).collect(alloc) {
-        Ok(bytes) => Ok(Bytes::of(bytes)),
-        Err(_) => Err(OutOfMemory),
-    };
+    let part = component(page.alloc(), segment, element, at);
     page.unless_short(part)
+}
+
+/// The bytes that are no blanks.
+fn without_blanks(alloc: Global, text: &[u8]) -> Result<Bytes, OutOfMemory> {
+    let kept = text.iter().copied().filter(|b| *b != b' ').collect(alloc)?;
+    Ok(Bytes::of(kept))
+}
+
+/// The id that a segment tells, without blanks, where there was memory for it.
+pub(crate) fn id_of(page: &mut Page, segment: &Segment<'_>) -> Option<Bytes> {
+    let part = part_of(page, segment, 2, 0)?;
+    let id = without_blanks(page.alloc(), part.as_slice());
+    page.unless_short(id)
 }
