@@ -3,8 +3,8 @@
 ghost use Rattle.std.specs.Prelude.{◌≡◌, IfOk, IfSome, IsOk, IsTrue, option_map};
 ghost use Rattle.std.specs.Option.{option_map_or};
 ghost use Rattle.clap.specs.Words.{app_of, found_of, rows_of, first_of, is_simple_and_free};
-ghost use Rattle.qc_run.specs.Inputs.{names_of, planning};
-ghost use Rattle.qc_words.specs.Asked.{asked_for, usage, KeepsLimits, are_different, given, is_same};
+ghost use Rattle.qc_run.specs.Inputs.{moving, names_of, planning};
+ghost use Rattle.qc_words.specs.Asked.{asked_for, usage, KeepsLimits, are_different, given, is_same, listing};
 ghost use Rattle.qc_words.specs.Commands.{command_of, named, read_by};
 ghost use Rattle.qc_words.specs.declared.commands.CommandName.TheVariants as name;
 ghost use Rattle.qc_words.specs.Words.{Asks, about, asked_in, check_in, followed, listed, moves_in, nodes_in, number_between, plan_in, planned, texts, value_of, watched};
@@ -190,6 +190,15 @@ fn plan_in<'a>(turn: Turn, matches: &ArgMatches<'a>) -> Request<'a>
     }
 }
 
+/// Whether no two of the names of a list of moves are equal.
+fn are_apart(asked: &MovesAsked<'_>) -> bool
+    ensures { result ≡ are_different (listing (moving asked.now)) }
+{
+    let (arrival, departure) = (Some(asked.arrival), Some(asked.departure));
+    let stow = Some(asked.stow);
+    !(is_same(arrival, departure) || is_same(arrival, stow)) && !is_same(departure, stow)
+}
+
 /// A list of moves, where its names are different.
 fn moves_in<'a>(matches: &ArgMatches<'a>) -> Request<'a>
     ensures { asked_for result ≡ moves_in (rows_of (found_of matches.now)) }
@@ -199,10 +208,7 @@ fn moves_in<'a>(matches: &ArgMatches<'a>) -> Request<'a>
         departure: value_of(matches, "departure"),
         stow: value_of(matches, "stow"),
     };
-    if asked.arrival != asked.departure
-        && asked.arrival != asked.stow
-        && asked.departure != asked.stow
-    {
+    if are_apart(&asked) {
         Request::Moves(asked)
     } else {
         Request::Usage
