@@ -1,7 +1,7 @@
 -- A file that is made, from what the shelf's calls say.
 use Rattle.std.proofs.Common.{◌≡◌, ℕ, List, Option, None, Some, ◌⊎◌, ap, ◌∙◌, inl, inr, refl, IsErrAnd, OnOk, Result, Ok, Err}
 use Rattle.std.specs.Io.KnownBytes.{append_known}
-use Rattle.qc_io.specs.Outside.{Beside, View, begun, beside, finished, with_file}
+use Rattle.qc_io.specs.Outside.{Beside, Files, View, begun, beside, finished, with_file}
 
 -- what stopped didn't come through
 pub not_through : {T E : Type 0} (P : Type 0) (Q : E → Type 0) (r : Result T E) → IsErrAnd r Q → OnOk r P

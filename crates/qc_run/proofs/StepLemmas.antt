@@ -4,6 +4,7 @@ use Rattle.std.proofs.lemmas.Bool.{cond_both}
 use Rattle.qc_num.specs.Reading.{◌>>=◌, with_fault}
 use Rattle.qc_io.specs.Outside.{Files, View}
 use Rattle.qc_bayplan.specs.Reading.{bay_plan_in}
+use Rattle.qc_bayplan.specs.declared.fault.BayPlanFault.{BayPlanFault}
 use Rattle.qc_bayplan.specs.declared.plan.Which.{Which}
 use Rattle.qc_bayplan.specs.declared.plan.Which.TheVariants.{Arrival, Departure}
 use Rattle.qc_gantt.specs.Plan.{plan_in}
@@ -241,6 +242,28 @@ plan_whole Departure asked = refl
 
 pub plan_steady : (which : Which) → Steady (bay_plan_due which)
 plan_steady which = then_steady (input_due (input_of which)) (λ bytes _. with_fault (refusal.BadBayPlan which) (bay_plan_in which bytes)) (input_steady (input_of which)) (λ bytes file contents. inl refl)
+
+-- a fault of a bay plan, whose file was read
+pub plan_refused : (which : Which) (asked : Moving) {before after : View} {bytes : List ℕ}
+    → IsStep (input_due (input_of which)) (plans_named asked) before after (Ok bytes) → (fault : BayPlanFault) → bay_plan_in which bytes ≡ Err fault
+    → IsStep (bay_plan_due which) (plans_named asked) before after (Err (stop.Refused (refusal.BadBayPlan which fault)))
+plan_refused which asked {before = before} {bytes = bytes} first fault bad = record {
+  ok = tt;
+  err = (
+    first.ok.0,
+    comes_then (input_due (input_of which)) (λ read _. with_fault (refusal.BadBayPlan which) (bay_plan_in which read)) (plans_named asked) before.files bytes
+        (Err (refusal.BadBayPlan which fault)) first.ok.1 (told before.files),
+  );
+  may = plan_named which asked;
+  files = first.files;
+  made = first.made;
+  faults = first.faults;
+  read_faults = first.read_faults;
+}
+  where
+    told : (files : Option Files) → IfSome files (λ held. with_fault (refusal.BadBayPlan which) (bay_plan_in which bytes) ≡ Err (refusal.BadBayPlan which fault))
+    told None = tt
+    told (Some held) = ap (with_fault (refusal.BadBayPlan which)) bad
 
 -- ---- no fault of a tree or of a log comes of the other files
 
