@@ -58,8 +58,8 @@ fn say_part(page: &mut Page, message: &Message<'_>) {
 
 /// Notes that no container is in both plans.
 fn say_strangers(page: &mut Page, message: &Message<'_>, both: &Both) {
-    let gone = both.changes.count(Class::Discharged) as usize;
-    let come = both.changes.count(Class::Loaded) as usize;
+    let gone = both.changes.count(Class::Discharged);
+    let come = both.changes.count(Class::Loaded);
     if gone > 0
         && come > 0
         && gone == both.arrival.containers().len()

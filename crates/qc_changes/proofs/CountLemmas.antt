@@ -1,9 +1,11 @@
 -- How many containers have each class.
-use Rattle.std.proofs.Common.{◌≡◌, ◌≢◌, ◌∙◌, ◌⊎◌, ◌+◌, ◌≤◌, ◌++◌, ◌∷◌, [], zero, suc, ℕ, Bool, true, false, not, ◌&&◌, cond, List, Option, Some, None, map, length, refl, sym, ap, inl, inr, arith}
+use Rattle.std.proofs.Common.{◌≡◌, ◌≢◌, ◌∙◌, ◌⊎◌, ◌+◌, ◌≤◌, ◌++◌, ◌∷◌, [], zero, suc, ℕ, Bool, true, false, not, ◌&&◌, cond, List, Option, Some, None, map, length, refl, sym, ap, subst, inl, inr, arith}
 use Rattle.std.specs.Prelude.{is_some}
 use Rattle.std.specs.Str.{bytes_eq}
 use Rattle.std.specs.List.{count_by, filter, AllByRecursion as Each}
 use Rattle.std.proofs.lemmas.Bool.{cases_Bool, not-true}
+use Rattle.std.proofs.lemmas.List.{length-append}
+use Rattle.qc_bayplan.specs.Plan.{AreContainers}
 use Rattle.qc_ship.specs.Cells.{CellView}
 use Rattle.qc_bayplan.specs.declared.plan.Container.{Container}
 use Rattle.qc_changes.specs.declared.class.Class.{Class}
@@ -11,8 +13,10 @@ use Rattle.qc_changes.specs.declared.class.Class.TheVariants as class
 use Rattle.qc_changes.specs.declared.counts.Counts.{Counts}
 use Rattle.qc_changes.specs.Over.{is_over_any}
 use Rattle.qc_changes.specs.Classes.{AreLifted, changed, class_by, class_of, is_at, is_still, same_cell, stands, worked}
+use Rattle.qc_changes.specs.Lifts.{HasOff, counts_from}
 use Rattle.qc_changes.specs.Counts.{count_in, count_of, either, is_class, is_gone, same_class}
-use Rattle.qc_changes.proofs.Elements.{In, each_of, filter_in, in_filter}
+use Rattle.qc_changes.proofs.Elements.{In, each_of, filter_in, in_filter, pairs_from_index}
+use Rattle.qc_changes.proofs.LiftLemmas.{one_lifted}
 use Rattle.qc_changes.proofs.StandLemmas.{AreApart, cells_same, id_other, id_same, same_cells, same_id, stands_at, stood_by}
 use Rattle.qc_changes.proofs.StayLemmas.{has_stands}
 use Rattle.qc_changes.proofs.Tally.{add, tally, tally_agree, tally_all, tally_append, tally_filter, tally_is, tally_none, tally_not, tally_sum, tally_three, tally_two}
@@ -61,8 +65,8 @@ meet t (a ∷ cs) second apart apart' =
     ∙ tally_sum (λ (c : Container). bytes_eq a.id c.id && t a.cell c.cell) (λ c. hits (λ x. t x c.cell) (stands cs c.id)) (λ c. hits (λ x. t x c.cell) (stands (a ∷ cs) c.id)) second each
   where
     front : (b : Bool) (n : ℕ) → add b n ≡ add b 0 + n
-    front true n = refl
-    front false n = refl
+    front true n = omega arith
+    front false n = omega arith
 
     each : (c : Container) → ((hits (λ x. t x c.cell) (stands cs c.id) ≡ false) × (hits (λ x. t x c.cell) (stands (a ∷ cs) c.id) ≡ (bytes_eq a.id c.id && t a.cell c.cell)))
         ⊎ (((bytes_eq a.id c.id && t a.cell c.cell) ≡ false) × (hits (λ x. t x c.cell) (stands (a ∷ cs) c.id) ≡ hits (λ x. t x c.cell) (stands cs c.id)))
@@ -178,8 +182,12 @@ module _ (first second lifted : List Container) (apart : AreApart first) (apart'
   loaded_is =
       by_tests class.Loaded (λ _. false) true (λ c at. at_both c.cell (stands second c.id) (over c)) refl
       ∙ ap (λ (n : ℕ). n + tally (λ (c : Container). true) (filter (is_gone first) second)) (nobody first)
+      ∙ zero_ahead (tally (λ (c : Container). true) (filter (is_gone first) second))
       ∙ everybody (filter (is_gone first) second) ∙ tally_filter (is_gone first) second
     where
+      zero_ahead : (n : ℕ) → 0 + n ≡ n
+      zero_ahead n = omega arith
+
       at_both : (cell : CellView) (o : Option CellView) (up : Bool) → is_class class.Loaded (class_by (Some cell) o (is_at cell o && up)) ≡ false
       at_both cell None up = refl
       at_both cell (Some x) up = same (same_cell cell x) up
@@ -297,3 +305,28 @@ module _ (first second lifted : List Container) (apart : AreApart first) (apart'
       let same = tally_filter (λ (c : Container). not (is_still other c)) plan in
       let all = tally_not (is_still other) plan in
       omega (arith, same, all)
+
+-- the counts that the code comes to
+pub counts_right : (first second : List Container) → AreContainers first → AreContainers second → (off : ℕ) (counts : Counts)
+    → HasOff first second off
+    → counts ≡ counts_from (length first) off (count_by (is_gone second) first) (count_by (is_still second) first) (count_by (is_gone first) second)
+    → (lifted : List Container) → AreLifted first second lifted → (k : Class) → count_in k counts ≡ count_of first second lifted k
+counts_right first second a b off counts has e lifted are =
+    let far = pairs_from_index (λ (x y : Container). x.id ≢ y.id) first a.ids in
+    let far' = pairs_from_index (λ (x y : Container). x.id ≢ y.id) second b.ids in
+    let same = ap (λ (cs : List Container). length cs) (one_lifted first second has.lifted lifted has.are are) in
+    let gone_is = tally_is (is_gone second) first in
+    let still_counted = tally_is (is_still second) first in
+    let all = first_is first second lifted far far' are in
+    let stays = still_is first second lifted far far' are in
+    let goes = changed_is first second lifted far far' are first second in
+    let size = has.count ∙ length-append (changed first second) has.lifted in
+    let r = ap (λ (c : Counts). c.restowed) e in
+    let k = ap (λ (c : Counts). c.lifted) e in
+    let s = ap (λ (c : Counts). c.staying) e in
+    counted first second lifted far far' are counts
+    (ap (λ (c : Counts). c.discharged) e ∙ sym gone_is)
+    (ap (λ (c : Counts). c.loaded) e ∙ sym (tally_is (is_gone first) second))
+    (omega (arith, r, gone_is, still_counted, all))
+    (omega (arith, k, same, still_counted, goes, size))
+    (omega (arith, s, same, still_counted, goes, size, stays))

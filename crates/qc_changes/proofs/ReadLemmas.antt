@@ -1,8 +1,8 @@
 -- What the reader of stowage lists makes of a list of moves.
-use Rattle.std.proofs.Common.{◌≡◌, ◌≢◌, ◌∙◌, ◌<◌, ◌≤◌, ◌+◌, ◌++◌, ◌∷◌, ◌==◌, ◌&&◌, ◌||◌, ◌/◌, ◌%◌, nat_lt, [], ℕ, Bool, true, false, cond, List, map, length, take, Option, Some, Result, Ok, Err, codes, refl, sym, ap, subst, inl, inr, arith}
+use Rattle.std.proofs.Common.{◌≡◌, ◌≢◌, ◌∙◌, ◌⊎◌, ◌<◌, ◌≤◌, ◌+◌, ◌++◌, ◌∷◌, ◌==◌, ◌&&◌, ◌||◌, ◌/◌, ◌%◌, nat_lt, [], ℕ, Bool, true, false, cond, List, map, length, take, Option, Some, Result, Ok, Err, codes, refl, sym, ap, subst, inl, inr, arith}
 use Rattle.std.specs.Prelude.{is_some}
-use Rattle.std.specs.Char.{is_ascii_digit}
-use Rattle.std.specs.Str.Parse.{digit_value, digits_value}
+use Rattle.std.specs.Char.{digit_value, is_ascii_digit}
+use Rattle.std.specs.Str.Parse.{digits_value}
 use Rattle.std.specs.Str.{bytes_eq}
 use Rattle.std.specs.List.{flat_map, list_all, list_any, AllByRecursion as Each}
 use Rattle.std.proofs.lemmas.Bool.{and_parts, cases_Bool, lt-ltb, ltb-true}
@@ -22,7 +22,6 @@ use Rattle.qc_lines.proofs.WholeReads.{all-of}
 use Rattle.qc_ship.specs.Cells as cells
 use Rattle.qc_ship.specs.Cells.{CellView, IsCell, bay_in, cell_in, cell_text, overlap, tier_in, two_digits}
 use Rattle.qc_ship.specs.Ship.{ShipView, place_of_bay}
-use Rattle.qc_stow.specs.Columns.{columns_in}
 use Rattle.qc_stow.specs.Fields.{is_id, is_id_byte}
 use Rattle.qc_stow.specs.Fields as stow
 use Rattle.qc_stow.specs.Moves.{has_id, is_taken, most_moves, same_move}
@@ -131,12 +130,19 @@ line_is row plain =
     length_plain true = refl
     length_plain false = refl
 
+    front : (k : Move) (rest : List ℕ) → move_text k ++ rest ≡ codes "," ++ kind_field k ++ codes "," ++ rest
+    front Discharge rest = refl
+    front Load rest = refl
+
+    tail : (b : Bool) → cond b (codes ",40\n") (codes ",20\n") ≡ codes "," ++ cond b (codes "40") (codes "20") ++ codes "\n"
+    tail true = refl
+    tail false = refl
+
     joined : (k : Move) (b : Bool) → row.id ++ move_text k ++ cell_text row.cell ++ cond b (codes ",40\n") (codes ",20\n")
         ≡ row.id ++ codes "," ++ kind_field k ++ codes "," ++ cell_text row.cell ++ codes "," ++ cond b (codes "40") (codes "20") ++ codes "\n"
-    joined Discharge true = refl
-    joined Discharge false = refl
-    joined Load true = refl
-    joined Load false = refl
+    joined k b =
+        ap (λ (t : List ℕ). row.id ++ move_text k ++ cell_text row.cell ++ t) (tail b)
+        ∙ ap (λ (t : List ℕ). row.id ++ t) (front k (cell_text row.cell ++ codes "," ++ cond b (codes "40") (codes "20") ++ codes "\n"))
 
 lines_reached : (rows : List Row) → Each IsPlain rows
     → Reached default_config st.StartRecord (flat_map row_line rows) (map line_fields rows) st.StartRecord []
@@ -286,7 +292,6 @@ module _ (first second : List Container) (c : ChangesView) (a : AreContainers fi
   list_reads ship few =
       let records = map line_fields c.rows in
       let size : length (names ∷ records) ≤ most_moves + 2 = omega (arith, few, length-map c.rows line_fields) in
-      let titled : columns_in names ≡ Ok columns = refl in
       ap (λ (rs : List (List (List ℕ))). moves_of ship (take (most_moves + 2) rs)) (text_records c.rows rows_plain)
       ∙ ap (moves_of ship) (take_all (most_moves + 2) (names ∷ records) size)
-      ∙ rw titled (each_back ship [] c.rows few rows_plain (none_before c.rows) rows_leave)
+      ∙ each_back ship [] c.rows (omega (arith, few)) rows_plain (none_before c.rows) rows_leave

@@ -16,7 +16,7 @@ pub tally_is : {X : Type 0} (p : X → Bool) (xs : List X) → tally p xs ≡ co
 tally_is p xs = is_count_by (tally p) p refl (λ x xs. step (p x) (tally p xs)) xs
   where
     step : (b : Bool) (n : ℕ) → add b n ≡ cond b (1 + n) n
-    step true n = refl
+    step true n = omega arith
     step false n = refl
 
 pub tally_filter : {X : Type 0} (p : X → Bool) (xs : List X) → length (filter p xs) ≡ tally p xs
@@ -27,9 +27,9 @@ tally_filter p (x ∷ xs) = elim (cases_Bool (p x)) [
 ]
 
 pub tally_append : {X : Type 0} (p : X → Bool) (xs ys : List X) → tally p (xs ++ ys) ≡ tally p xs + tally p ys
-tally_append p [] ys = refl
+tally_append p [] ys = omega arith
 tally_append p (x ∷ xs) ys = elim (cases_Bool (p x)) [
-  | inl holds ↦ rw holds (ap suc (tally_append p xs ys))
+  | inl holds ↦ rw holds (let ih = tally_append p xs ys in omega (arith, ih))
   | inr fails ↦ rw fails (tally_append p xs ys)
 ]
 
@@ -50,7 +50,7 @@ pub tally_three : {X : Type 0} (p q : X → Bool) (xs : List X) → ((x : X) →
     → tally p xs + (tally (λ x. not (p x) && not (q x)) xs + tally q xs) ≡ length xs
 tally_three p q [] apart = refl
 tally_three p q (x ∷ xs) apart = elim (cases_Bool (p x)) [
-  | inl holds ↦ rw (holds, apart x holds) (ap suc (tally_three p q xs apart))
+  | inl holds ↦ rw (holds, apart x holds) (let ih = tally_three p q xs apart in omega (arith, ih))
   | inr fails ↦ elim (cases_Bool (q x)) [
     | inl yes' ↦ rw (fails, yes') (let ih = tally_three p q xs apart in omega (arith, ih))
     | inr no' ↦ rw (fails, no') (let ih = tally_three p q xs apart in omega (arith, ih))
@@ -63,7 +63,7 @@ tally_two p q [] = refl
 tally_two p q (x ∷ xs) = elim (cases_Bool (p x)) [
   | inr fails ↦ rw fails (tally_two p q xs)
   | inl holds ↦ elim (cases_Bool (q x)) [
-    | inl yes' ↦ rw (holds, yes') (ap suc (tally_two p q xs))
+    | inl yes' ↦ rw (holds, yes') (let ih = tally_two p q xs in omega (arith, ih))
     | inr no' ↦ rw (holds, no') (let ih = tally_two p q xs in omega (arith, ih))
   ]
 ]
@@ -71,7 +71,7 @@ tally_two p q (x ∷ xs) = elim (cases_Bool (p x)) [
 pub tally_not : {X : Type 0} (p : X → Bool) (xs : List X) → tally p xs + tally (λ x. not (p x)) xs ≡ length xs
 tally_not p [] = refl
 tally_not p (x ∷ xs) = elim (cases_Bool (p x)) [
-  | inl holds ↦ rw holds (ap suc (tally_not p xs))
+  | inl holds ↦ rw holds (let ih = tally_not p xs in omega (arith, ih))
   | inr fails ↦ rw fails (let ih = tally_not p xs in omega (arith, ih))
 ]
 
@@ -85,7 +85,7 @@ tally_sum p q r (x ∷ xs) each = elim (each x) [
 ]
   where
     front : (b : Bool) (m n : ℕ) → add b m + n ≡ add b (m + n)
-    front true m n = refl
+    front true m n = omega arith
     front false m n = refl
 
     behind : (b : Bool) (m n : ℕ) → m + add b n ≡ add b (m + n)

@@ -118,7 +118,7 @@ fn changes_between(
     let mut off = Vec::new(alloc);
     let mut on = Vec::new(alloc);
     fill(alloc, &mut off, &mut on, first, second)?;
-    let counts = counts_of(first, second, off.len());
+    let counts = counts_of(first, second, off.as_slice().len());
     off.append(&mut on)?;
     Ok(Changes::of(off, counts))
 }

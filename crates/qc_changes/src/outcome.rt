@@ -39,7 +39,7 @@ impl Changes {
     }
 
     /// How many containers have this class.
-    pub fn count(&self, class: Class) -> u32
+    pub fn count(&self, class: Class) -> usize
         ensures { result ≡ count_in class self.now.counts }
     {
         self.counts.of(class)

@@ -24,11 +24,11 @@ fn figures_of(plans: &BayPlans, changes: &Changes) -> Figures
     let (arrival, departure) = (&plans.arrival, &plans.departure);
     Figures {
         moves: changes.rows().len() as u64,
-        discharged: u64::from(changes.count(Class::Discharged)),
-        loaded: u64::from(changes.count(Class::Loaded)),
-        restowed: u64::from(changes.count(Class::Restowed)),
-        lifted: u64::from(changes.count(Class::Lifted)),
-        staying: u64::from(changes.count(Class::Staying)),
+        discharged: changes.count(Class::Discharged) as u64,
+        loaded: changes.count(Class::Loaded) as u64,
+        restowed: changes.count(Class::Restowed) as u64,
+        lifted: changes.count(Class::Lifted) as u64,
+        staying: changes.count(Class::Staying) as u64,
         unnamed: u64::from(departure.unnamed()),
         bundled: u64::from(arrival.bundled()) + u64::from(departure.bundled()),
         other: u64::from(arrival.other()) + u64::from(departure.other()),
