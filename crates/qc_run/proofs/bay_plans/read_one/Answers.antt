@@ -14,4 +14,4 @@ returns-in-Ok g c =
 pub returns-in-Err-Fault : goal.returns-in-Err-Fault
 returns-in-Err-Fault g c =
     plan_refused c.args.which (moving c.args.asked.now) c.in_ok-bytes.ensures.step c.in-Err-Fault.fault
-    (ap (bay_plan_in c.args.which) (sym c.as_slice.ensures) ∙ c.in-Err-Fault.ensures)
+    (ap (bay_plan_in c.args.which) (sym c.as_slice.ensures) ∙ (rw c.in-Err-Fault.is at c.in-Err-Fault.ensures))
