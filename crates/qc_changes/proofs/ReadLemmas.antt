@@ -7,7 +7,7 @@ use Rattle.std.specs.Str.{bytes_eq}
 use Rattle.std.specs.List.{flat_map, list_all, list_any, AllByRecursion as Each}
 use Rattle.std.proofs.lemmas.Bool.{and_parts, cases_Bool, lt-ltb, ltb-true}
 use Rattle.std.proofs.lemmas.Bool.Decides.{nat_tests}
-use Rattle.std.proofs.lemmas.List.{length-append, length-map, take_all}
+use Rattle.std.proofs.lemmas.List.{append_assoc, length-append, length-map, take_all}
 use Rattle.std.proofs.lemmas.List.Folds.{list_any-append}
 use Rattle.std.proofs.lemmas.List.Elements.{recursion_from_All}
 use Rattle.csv.specs.Machine.{next_record}
@@ -130,19 +130,30 @@ line_is row plain =
     length_plain true = refl
     length_plain false = refl
 
-    front : (k : Move) (rest : List ℕ) → move_text k ++ rest ≡ codes "," ++ kind_field k ++ codes "," ++ rest
+    front : (k : Move) (rest : List ℕ) → move_text k ++ rest ≡ codes "," ++ (kind_field k ++ (codes "," ++ rest))
     front Discharge rest = refl
     front Load rest = refl
 
-    tail : (b : Bool) → cond b (codes ",40\n") (codes ",20\n") ≡ codes "," ++ cond b (codes "40") (codes "20") ++ codes "\n"
+    tail : (b : Bool) → cond b (codes ",40\n") (codes ",20\n") ≡ codes "," ++ (cond b (codes "40") (codes "20") ++ codes "\n")
     tail true = refl
     tail false = refl
+
+    -- what is put together from the left, from the right
+    right : (a b c d e f g h : List ℕ) → a ++ b ++ c ++ d ++ e ++ f ++ g ++ h ≡ a ++ (b ++ (c ++ (d ++ (e ++ (f ++ (g ++ h))))))
+    right a b c d e f g h =
+        append_assoc (a ++ b ++ c ++ d ++ e ++ f) g h ∙ append_assoc (a ++ b ++ c ++ d ++ e) f (g ++ h)
+        ∙ append_assoc (a ++ b ++ c ++ d) e (f ++ (g ++ h)) ∙ append_assoc (a ++ b ++ c) d (e ++ (f ++ (g ++ h)))
+        ∙ append_assoc (a ++ b) c (d ++ (e ++ (f ++ (g ++ h)))) ∙ append_assoc a b (c ++ (d ++ (e ++ (f ++ (g ++ h)))))
 
     joined : (k : Move) (b : Bool) → row.id ++ move_text k ++ cell_text row.cell ++ cond b (codes ",40\n") (codes ",20\n")
         ≡ row.id ++ codes "," ++ kind_field k ++ codes "," ++ cell_text row.cell ++ codes "," ++ cond b (codes "40") (codes "20") ++ codes "\n"
     joined k b =
-        ap (λ (t : List ℕ). row.id ++ move_text k ++ cell_text row.cell ++ t) (tail b)
-        ∙ ap (λ (t : List ℕ). row.id ++ t) (front k (cell_text row.cell ++ codes "," ++ cond b (codes "40") (codes "20") ++ codes "\n"))
+        let size = cond b (codes "40") (codes "20") ++ codes "\n" in
+        append_assoc (row.id ++ move_text k) (cell_text row.cell) (cond b (codes ",40\n") (codes ",20\n"))
+        ∙ append_assoc row.id (move_text k) (cell_text row.cell ++ cond b (codes ",40\n") (codes ",20\n"))
+        ∙ ap (λ (t : List ℕ). row.id ++ (move_text k ++ (cell_text row.cell ++ t))) (tail b)
+        ∙ ap (λ (t : List ℕ). row.id ++ t) (front k (cell_text row.cell ++ (codes "," ++ size)))
+        ∙ sym (right row.id (codes ",") (kind_field k) (codes ",") (cell_text row.cell) (codes ",") (cond b (codes "40") (codes "20")) (codes "\n"))
 
 lines_reached : (rows : List Row) → Each IsPlain rows
     → Reached default_config st.StartRecord (flat_map row_line rows) (map line_fields rows) st.StartRecord []

@@ -10,7 +10,7 @@ counts_of-counts-requires-clause-off c =
     record {
       lifted = lifted;
       are = are;
-      count = c.len.ensures ∙ ap (λ (rs : List Row). length rs) c.as_slice.ensures.value
+      count = ap (λ (rs : List Row). length rs) c.as_slice.ensures.value
           ∙ off_is c.args.first.now c.args.second.now lifted c.fill.new.off.items c.fill.new.on.items parts;
     }
 
