@@ -5,7 +5,7 @@ use crate::decks::stay_on_deck;
 use crate::segment::Message;
 use qc_bayplan::Container;
 use qc_changes::Class;
-use qc_num::OutOfMemory;
+use qc_num::{Bytes, OutOfMemory};
 use qc_page::{Page, text_of};
 use std::alloc::Global;
 
@@ -159,18 +159,21 @@ fn say_lengths(page: &mut Page, message: &Message<'_>, both: &Both) {
     }
 }
 
-/// Whether two ids differ in small letters and in signs alone.
-fn are_alike(one: &[u8], other: &[u8]) -> bool {
-    let mut rest = other.iter().filter(|b| b.is_ascii_alphanumeric());
-    for byte in one {
-        if byte.is_ascii_alphanumeric() {
-            match rest.next() {
-                Some(next) if next.eq_ignore_ascii_case(byte) => {}
-                _ => return false,
-            }
-        }
-    }
-    rest.next().is_none()
+/// The letters and digits of an id, all in capitals.
+fn letters_of(alloc: Global, id: &[u8]) -> Result<Bytes, OutOfMemory> {
+    let letters = id
+        .iter()
+        .copied()
+        .filter(|b| b.is_ascii_alphanumeric())
+        .map(|b| b.to_ascii_uppercase())
+        .collect(alloc)?;
+    Ok(Bytes::of(letters))
+}
+
+/// Whether two ids differ, and in small letters and signs alone.
+fn are_alike(alloc: Global, one: &[u8], other: &[u8]) -> Result<bool, OutOfMemory> {
+    let (first, second) = (letters_of(alloc, one)?, letters_of(alloc, other)?);
+    Ok(one != other && first.as_slice() == second.as_slice())
 }
 
 /// The first container that goes from a cell to which one comes whose id is alike, with that one.
@@ -183,8 +186,7 @@ fn alike<'a>(
     for container in both.arrival.containers() {
         if let Some(at) = places.get(&number_of(&container.cell))
             && let Some(other) = coming.get(*at)
-            && other.id.as_bytes() != container.id.as_bytes()
-            && are_alike(container.id.as_bytes(), other.id.as_bytes())
+            && are_alike(alloc, container.id.as_bytes(), other.id.as_bytes())?
         {
             return Ok(Some((container, other)));
         }
