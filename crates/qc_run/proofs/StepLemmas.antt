@@ -1,9 +1,7 @@
 -- Steps that read, one after the other: what is due of both.
 use Rattle.std.proofs.Common.{◌≡◌, ◌⊎◌, ℕ, List, Option, None, Some, Result, Ok, Err, refl, sym, inl, inr, ap, subst, ◌∙◌, IfErr, IfSome, IsErrAnd, IsSome, length, nat_le, arith}
 use Rattle.std.proofs.lemmas.Bool.{cond_both}
-use Rattle.qc_num.specs.Reading.{◌>>=◌, IsReading, with_fault}
-use Rattle.qc_num.specs.declared.read_error.ReadError.{ReadError}
-use Rattle.qc_num.specs.declared.read_error.ReadError.TheVariants.{Fault, OutOfMemory}
+use Rattle.qc_num.specs.Reading.{◌>>=◌, with_fault}
 use Rattle.qc_io.specs.Outside.{Files, View}
 use Rattle.qc_bayplan.specs.Reading.{bay_plan_in}
 use Rattle.qc_bayplan.specs.declared.fault.BayPlanFault.{BayPlanFault}
@@ -244,12 +242,6 @@ plan_whole Departure asked = refl
 
 pub plan_steady : (which : Which) → Steady (bay_plan_due which)
 plan_steady which = then_steady (input_due (input_of which)) (λ bytes _. with_fault (refusal.BadBayPlan which) (bay_plan_in which bytes)) (input_steady (input_of which)) (λ bytes file contents. inl refl)
-
--- what a reading that stopped for a fault says
-pub fault_read : {V F : Type 0} (reading : Result V F) (error : ReadError F) (fault : F) → error ≡ Fault fault
-    → IsReading (λ (v : V). v) reading (Err error) → reading ≡ Err fault
-fault_read reading (Fault other) fault is read = let same : other ≡ fault = cc is in read ∙ ap Err same
-fault_read reading OutOfMemory fault is read = absurd (cc is)
 
 -- a fault of a bay plan, whose file was read
 pub plan_refused : (which : Which) (asked : Moving) {before after : View} {bytes : List ℕ}
