@@ -214,7 +214,7 @@ fn say_restows(page: &mut Page, both: &Both) {
     if count > 0 {
         page.line()
             .text("note: ")
-            .count(u64::from(count))
+            .count(count as u64)
             .text(
                 " change their places: where that is from hatch to hatch, the ship file wants restows = \"ordered\"",
             )
