@@ -12,7 +12,7 @@ use Rattle.qc_moves_command.specs.declared.answer.MovesAnswer.TheVariants as ans
 use Rattle.qc_moves_command.specs.Account.{AreFound, IsBetween, IsStored, Writes}
 
 module _ (asked : Moving) (before mid : View) (files : mid.files ≡ before.files) where
-  found_before : AreFound asked mid → AreFound asked before
+  abbrev found_before : AreFound asked mid → AreFound asked before
   found_before f = record {
     plans = f.plans;
     due = subst (λ (held : Option Files). ComesTo bay_plans_due (plans_named asked) held (Ok f.plans)) files f.due;

@@ -3,8 +3,8 @@ use Rattle.qc_run.specs.Inputs.{moving}
 use Rattle.qc_moves_command.proofs.StoreLemmas.{found_behind, over_read}
 use Rattle.qc_moves_command.proofs.command.serve.Goals as goal
 
-pub store_found-requires : goal.store_found-requires
-store_found-requires g c =
+pub store_found-answer-requires : goal.store_found-answer-requires
+store_found-answer-requires g c =
     let view = g.S.Sink.view in
     let step = c.in_ok-plans.ensures in
     record {
@@ -19,6 +19,6 @@ returns-clause-serves g c =
     let view = g.S.Sink.view in
     let step = c.in_ok-plans.ensures in (
       over_read (moving c.args.asked.now) (view c.args.shelf.now) (view c.read_bay_plans.new.shelf) step.files
-          (view c.store_found.new.shelf) step.faults c.store_found.result c.store_found.ensures.writes,
-      c.store_found.ensures.read_faults ∙ step.ok.0,
+          (view c.store_found-answer.new.shelf) step.faults c.store_found-answer.result c.store_found-answer.ensures.writes,
+      c.store_found-answer.ensures.read_faults ∙ step.ok.0,
     )

@@ -1,4 +1,6 @@
-use Rattle.std.proofs.Common.{◌∙◌}
+use Rattle.std.proofs.Common.{◌≡◌, ◌∙◌, List, subst}
+use Rattle.std.specs.Io.KnownBytes.{append_known}
+use Rattle.qc_stow.specs.declared.row.Row.{Row}
 use Rattle.qc_changes.specs.ListText.{list_text}
 use Rattle.qc_io.proofs.Pieces.{on_err}
 use Rattle.qc_run.proofs.MadeLemmas.{left_file, made_file, not_through}
@@ -13,11 +15,11 @@ returns-in_err-finish-clause-err g c =
     on_err c.from_residual-in_err-finish.result
     (left_file (view c.args.shelf.now) (view c.create.new.self) (view c.write_list.new.sink) (view c.finish.new.self)
     c.args.name.now (list_text c.args.changes.now.rows) c.create.ensures.files_stay c.in_ok-create.ensures.ok_made
-    c.in_ok-create.ensures.ok_begun c.in_ok-write_list.ensures.whole c.in_ok-write_list.ensures.beside_stays c.in_err-finish.ensures.err_files)
+    c.in_ok-create.ensures.ok_begun (subst (λ (rs : List Row). (view c.write_list.new.sink).written ≡ append_known (view c.create.new.self).written (list_text rs)) c.rows.ensures c.in_ok-write_list.ensures.whole) c.in_ok-write_list.ensures.beside_stays c.in_err-finish.ensures.err_files)
 
 pub returns-clause-ok : goal.returns-clause-ok
 returns-clause-ok g c =
     let view = g.S.Sink.view in
     c.in_ok-finish.ensures.ok_files ∙ made_file (view c.args.shelf.now) (view c.create.new.self) (view c.write_list.new.sink)
     c.args.name.now (list_text c.args.changes.now.rows) c.create.ensures.files_stay c.in_ok-create.ensures.ok_made
-    c.in_ok-create.ensures.ok_begun c.in_ok-write_list.ensures.whole c.in_ok-write_list.ensures.beside_stays
+    c.in_ok-create.ensures.ok_begun (subst (λ (rs : List Row). (view c.write_list.new.sink).written ≡ append_known (view c.create.new.self).written (list_text rs)) c.rows.ensures c.in_ok-write_list.ensures.whole) c.in_ok-write_list.ensures.beside_stays
