@@ -41,7 +41,7 @@ module _ (asked : Moving) (before mid : View) (files : mid.files ≡ before.file
   }
 
   -- what was found, seen by the shelf as it was left behind the reading
-  pub found_behind : (plans : BayPlans) → ComesTo bay_plans_due (plans_named asked) before.files (Ok plans)
+  abbrev pub found_behind : (plans : BayPlans) → ComesTo bay_plans_due (plans_named asked) before.files (Ok plans)
       → (c : ChangesView) → IsBetween plans c → AreFound asked mid
   found_behind plans due c between = record {
     plans = plans;
