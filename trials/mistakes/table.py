@@ -32,6 +32,8 @@ BASES = {
     "vessel": ("vessel", {}),
     "places": ("places", {"log.txt": ("examples", "places/log.txt")}),
     "restows": ("restows", {"plan.csv": RESTOWS_PLAN}),
+    "bay-plans": ("bay-plans", {"arrival.edi": ("examples", "bay-plans/arrival.edi"),
+                                "departure.edi": ("examples", "bay-plans/departure.edi")}),
 }
 
 TASKS = "tasks ship.toml stow.csv"

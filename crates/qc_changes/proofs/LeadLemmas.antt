@@ -74,7 +74,7 @@ pair_filter {X} R p (x ∷ xs) h = elim (cases_Bool (p x)) [
     each_filter P [] h = tt
     each_filter P (y ∷ ys) h = elim (cases_Bool (p y)) [ inl holds ↦ rw holds (h.0, each_filter P ys h.1) | inr fails ↦ rw fails (each_filter P ys h.1) ]
 
-pair_append : {X : Type 0} (R : X → X → Type 0) (xs ys : List X) → EachPair R xs → EachPair R ys
+pub pair_append : {X : Type 0} (R : X → X → Type 0) (xs ys : List X) → EachPair R xs → EachPair R ys
     → ((x y : X) → In x xs → In y ys → R x y) → EachPair R (xs ++ ys)
 pair_append R [] ys p q cross = q
 pair_append {X} R (x ∷ xs) ys p q cross =
@@ -84,7 +84,7 @@ pair_append {X} R (x ∷ xs) ys p q cross =
     each_append [] ws a b = b
     each_append (z ∷ zs) ws a b = (a.0, each_append zs ws a.1 b)
 
-pair_from : {X : Type 0} (R T : X → X → Type 0) (P : X → Type 0) (xs : List X) → EachPair R xs → Each P xs
+pub pair_from : {X : Type 0} (R T : X → X → Type 0) (P : X → Type 0) (xs : List X) → EachPair R xs → Each P xs
     → ((x y : X) → P x → P y → R x y → T x y) → EachPair T xs
 pair_from R T P [] p q h = tt
 pair_from {X} R T P (x ∷ xs) p q h = (go xs p.0 q.1, pair_from R T P xs p.1 q.1 h)
@@ -120,6 +120,29 @@ overlap_sym a b =
     ap (λ t. (t && (a.tier == b.tier)) && meet a b) (eqb_sym a.row b.row)
     ∙ ap (λ t. ((b.row == a.row) && t) && meet a b) (eqb_sym a.tier b.tier)
     ∙ ap (λ t. ((b.row == a.row) && (b.tier == a.tier)) && t) (any_swap (slots a.bay) (slots b.bay))
+
+-- containers of a plan with different ids stand apart
+pub cells_apart : (plan : List Container) → AreContainers plan → (i j : List ℕ) (x y : CellView) → stands plan i ≡ Some x → stands plan j ≡ Some y
+    → i ≢ j → overlap x y ≡ false
+cells_apart plan keeps i j x y at at' ne =
+    let (c, (c_in, c_id, c_cell)) = stood_by plan i x at in
+    let (d, (d_in, d_id, d_cell)) = stood_by plan j y at' in
+    let free = either plan (pairs_from_index (λ (p q : Container). overlap q.cell p.cell ≡ false) plan keeps.apart) c d c_in d_in (λ e. ne (sym c_id ∙ ap (λ (z : Container). z.id) e ∙ d_id)) in
+    subst (λ (z : CellView). overlap z y ≡ false) c_cell (subst (λ (z : CellView). overlap c.cell z ≡ false) d_cell free)
+  where
+    either : (cs : List Container) → EachPair (λ (p q : Container). overlap q.cell p.cell ≡ false) cs
+        → (c d : Container) → In c cs → In d cs → c ≢ d → overlap c.cell d.cell ≡ false
+    either [] pairs c d c_in d_in ne = absurd c_in
+    either (e ∷ es) pairs c d c_in d_in ne = elim c_in [
+      | inl c_is ↦ elim d_in [
+        | inl d_is ↦ absurd (ne (sym c_is ∙ d_is))
+        | inr d_later ↦ overlap_sym c.cell d.cell ∙ subst (λ (z : Container). overlap d.cell z.cell ≡ false) c_is (each_in (λ (q : Container). overlap q.cell e.cell ≡ false) es d pairs.0 d_later)
+      ]
+      | inr c_later ↦ elim d_in [
+        | inl d_is ↦ subst (λ (z : Container). overlap c.cell z.cell ≡ false) d_is (each_in (λ (q : Container). overlap q.cell e.cell ≡ false) es c pairs.0 c_later)
+        | inr d_later ↦ either es pairs.1 c d c_later d_later ne
+      ]
+    ]
 
 -- ---- order
 
@@ -214,10 +237,10 @@ module _ (first second lifted : List Container) (rows : List Row) (a : AreContai
       let still : is_still first c ≡ true = ap (is_at c.cell) there ∙ cells_same c.cell in
       absurd (cc (moved, still)))
 
-  off_kinds : Each (λ (r : Row). r.kind ≡ Discharge) m.off
+  pub off_kinds : Each (λ (r : Row). r.kind ≡ Discharge) m.off
   off_kinds = each_off (λ (r : Row). r.kind ≡ Discharge) (λ c at. refl)
 
-  on_kinds : Each (λ (r : Row). r.kind ≡ Load) m.on
+  pub on_kinds : Each (λ (r : Row). r.kind ≡ Load) m.on
   on_kinds = each_on (λ (r : Row). r.kind ≡ Load) (λ c at. refl)
 
   pub off_apart : EachPair (λ (x y : Row). x.id ≢ y.id) m.off
@@ -228,10 +251,13 @@ module _ (first second lifted : List Container) (rows : List Row) (a : AreContai
   on_apart = apart_sorted (λ (r : Row). r.id) (map (row_of Load) comes) m.on m.parts.on_are
       (pair_map (λ (x y : Row). x.id ≢ y.id) (row_of Load) comes apart_comes)
 
+  pub off_stand : Each (λ (r : Row). stands first r.id ≡ Some r.cell) m.off
+  off_stand = each_off (λ (r : Row). stands first r.id ≡ Some r.cell) (λ c at. stands_at first apart c (going_in first second lifted apart apart' are c at))
+
   can_go : CanAllGo (stands first) m.off
   can_go = record {
     kinds = off_kinds;
-    stand = each_off (λ (r : Row). stands first r.id ≡ Some r.cell) (λ c at. stands_at first apart c (going_in first second lifted apart apart' are c at));
+    stand = off_stand;
     order = pair_both (λ (x y : Row). x.id ≢ y.id) (λ (x y : Row). y.cell.tier ≤ x.cell.tier) m.off off_apart (falls m.off m.parts.off_order);
     covered = each_off (λ (r : Row). (id : List ℕ) (other : CellView) → stands first id ≡ Some other → is_over other r.cell ≡ true → names m.off id ≡ true)
         (λ c at id other there over. elim (cases_Bool (has goes id)) [
@@ -262,28 +288,7 @@ module _ (first second lifted : List Container) (rows : List Row) (a : AreContai
         (fails, before, both, under)
   ]
 
-  cells_apart : (i j : List ℕ) (x y : CellView) → stands second i ≡ Some x → stands second j ≡ Some y → i ≢ j → overlap x y ≡ false
-  cells_apart i j x y at at' ne =
-      let (c, (c_in, c_id, c_cell)) = stood_by second i x at in
-      let (d, (d_in, d_id, d_cell)) = stood_by second j y at' in
-      let free = either second (pairs_from_index (λ (p q : Container). overlap q.cell p.cell ≡ false) second b.apart) c d c_in d_in (λ e. ne (sym c_id ∙ ap (λ (z : Container). z.id) e ∙ d_id)) in
-      subst (λ (z : CellView). overlap z y ≡ false) c_cell (subst (λ (z : CellView). overlap c.cell z ≡ false) d_cell free)
-    where
-      either : (cs : List Container) → EachPair (λ (p q : Container). overlap q.cell p.cell ≡ false) cs
-          → (c d : Container) → In c cs → In d cs → c ≢ d → overlap c.cell d.cell ≡ false
-      either [] pairs c d c_in d_in ne = absurd c_in
-      either (e ∷ es) pairs c d c_in d_in ne = elim c_in [
-        | inl c_is ↦ elim d_in [
-          | inl d_is ↦ absurd (ne (sym c_is ∙ d_is))
-          | inr d_later ↦ overlap_sym c.cell d.cell ∙ subst (λ (z : Container). overlap d.cell z.cell ≡ false) c_is (each_in (λ (q : Container). overlap q.cell e.cell ≡ false) es d pairs.0 d_later)
-        ]
-        | inr c_later ↦ elim d_in [
-          | inl d_is ↦ subst (λ (z : Container). overlap c.cell z.cell ≡ false) d_is (each_in (λ (q : Container). overlap q.cell e.cell ≡ false) es c pairs.0 c_later)
-          | inr d_later ↦ either es pairs.1 c d c_later d_later ne
-        ]
-      ]
-
-  on_stand : Each (λ (r : Row). stands second r.id ≡ Some r.cell) m.on
+  pub on_stand : Each (λ (r : Row). stands second r.id ≡ Some r.cell) m.on
   on_stand = each_on (λ (r : Row). stands second r.id ≡ Some r.cell) (λ c at. stands_at second apart' c (coming_in first second lifted apart apart' are c at))
 
   has_itself : (c : Container) → In c comes → has comes c.id ≡ true
@@ -299,7 +304,7 @@ module _ (first second lifted : List Container) (rows : List Row) (a : AreContai
     clear = each_on (λ (r : Row). IsFree between r.cell × IsOpen between r.cell) (λ c at. (
       (λ id other there.
           let (fails, before, both, under) = still_there id other there in
-          cells_apart id c.id other c.cell both (stands_at second apart' c (coming_in first second lifted apart apart' are c at))
+          cells_apart second b id c.id other c.cell both (stands_at second apart' c (coming_in first second lifted apart apart' are c at))
           (λ e. absurd (cc (before, comes_new first second lifted apart apart' are id (ap (has comes) e ∙ has_itself c at) fails)))),
       (λ id other there.
           let (fails, before, both, under) = still_there id other there in
@@ -308,7 +313,7 @@ module _ (first second lifted : List Container) (rows : List Row) (a : AreContai
     order = pair_from (λ (x y : Row). (x.id ≢ y.id) × (x.cell.tier ≤ y.cell.tier)) (λ (x y : Row). (x.id ≢ y.id) × (overlap x.cell y.cell ≡ false) × (x.cell.tier ≤ y.cell.tier))
         (λ (r : Row). stands second r.id ≡ Some r.cell) m.on
         (pair_both (λ (x y : Row). x.id ≢ y.id) (λ (x y : Row). x.cell.tier ≤ y.cell.tier) m.on on_apart (rises m.on m.parts.on_order)) on_stand
-        (λ x y at at' h. (h.0, cells_apart x.id y.id x.cell y.cell at at' h.0, h.1));
+        (λ x y at at' h. (h.0, cells_apart second b x.id y.id x.cell y.cell at at' h.0, h.1));
   }
 
   ends_there : (id : List ℕ) → after_all between m.on id ≡ stands second id

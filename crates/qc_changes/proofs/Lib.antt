@@ -9,4 +9,7 @@ pub mod FloorLemmas
 pub mod Turns
 pub mod StayLemmas
 pub mod PlanLemmas
+pub mod Tally
+pub mod CountLemmas
 pub mod ChangesLemmas
+pub mod ReadLemmas

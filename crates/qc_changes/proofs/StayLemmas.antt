@@ -31,7 +31,7 @@ staying_is (Some x) (Some y) lifted cell is h =
     both true false e = (refl, refl)
     both false lifted e = absurd (cc e)
 
-has_stands : (cs : List Container) (c : Container) → In c cs → is_some (stands cs c.id) ≡ true
+pub has_stands : (cs : List Container) (c : Container) → In c cs → is_some (stands cs c.id) ≡ true
 has_stands [] c h = absurd h
 has_stands (d ∷ ds) c h = elim (cases_Bool (bytes_eq d.id c.id)) [
   | inl own ↦ rw own refl

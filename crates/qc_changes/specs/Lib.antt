@@ -6,4 +6,5 @@ pub mod ListText
 pub mod Floors
 pub mod Plans
 pub mod Lifts
+pub mod Counts
 pub mod Changes

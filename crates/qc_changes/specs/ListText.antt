@@ -1,10 +1,14 @@
 -- public: the text of a list of moves, as the reader of stowage lists takes it.
-use Rattle.std.specs.Prelude.{ℕ, Bool, List, ◌++◌, codes, if◌then◌else◌}
+use Rattle.std.specs.Prelude.{ℕ, Bool, List, [], ◌++◌, ◌+◌, length, Result, codes, if◌then◌else◌}
 use Rattle.std.specs.List.{flat_map}
+use Rattle.qc_num.specs.Reading.{each}
 use Rattle.qc_ship.specs.Cells.{cell_text, is_forty}
+use Rattle.qc_ship.specs.Ship.{ShipView}
 use Rattle.qc_stow.specs.declared.row.Move.{Move}
 use Rattle.qc_stow.specs.declared.row.Move.TheVariants.{Discharge, Load}
 use Rattle.qc_stow.specs.declared.row.Row.{Row}
+use Rattle.qc_stow.specs.declared.fault.StowFault.{StowFault}
+use Rattle.qc_stow.specs.Stow.{numbered, over_hatch}
 
 abbrev pub header : List ℕ
 header = codes "id,move,cell,length\n"
@@ -25,3 +29,8 @@ row_line row =
 -- the names of the columns, and a line for each move
 abbrev pub list_text : List Row → List ℕ
 list_text rows = header ++ flat_map row_line rows
+
+-- what the reader of stowage lists makes of this text for a ship: these moves, or `NoHatch` at the record of the first
+-- one whose bay no hatch of the ship takes
+abbrev pub read_for : ShipView → List Row → Result (List Row) StowFault
+read_for ship rows = each (λ earlier row. numbered (length earlier + 2) (over_hatch ship row)) [] rows

@@ -8,10 +8,15 @@ ghost use Rattle.qc_bayplan.specs.declared.plan.Container.{Container};
 ghost use Rattle.qc_changes.specs.Classes.{AreLifted, changed, chosen, stands};
 ghost use Rattle.qc_changes.specs.Floors.{IsFloor, known};
 ghost use Rattle.qc_changes.specs.Lifts.{HaveLifted};
-ghost use Rattle.qc_changes.specs.MoveList.{AreParts, IsMoveList, row_of};
-ghost use Rattle.qc_changes.specs.Changes.{AreChanges};
+ghost use Rattle.qc_changes.specs.MoveList.{AreParts, row_of};
+ghost use Rattle.qc_bayplan.specs.Plan.{AreContainers};
+ghost use Rattle.qc_changes.specs.Changes.{AddUp, AreChanges};
+ghost use Rattle.qc_changes.specs.ListText.{list_text, read_for};
 ghost use Rattle.qc_changes.specs.States.{Leads};
+ghost use Rattle.qc_ship.specs.Ship.{ShipView};
+ghost use Rattle.qc_stow.specs.Stow.{moves_in};
 
+use crate::counts::counts_of;
 use crate::floors::Floors;
 use crate::lift::floors_of;
 use crate::outcome::Changes;
@@ -100,21 +105,29 @@ fn fill(
     Ok(())
 }
 
-/// The moves that lead from one plan to another.
-fn rows_between(alloc: Global, first: &Plan<'_>, second: &Plan<'_>) -> Result<Vec<Row>, OutOfMemory>
-    ensures { IfOk result (λ rows. (lifted : List Container) × (AreLifted first.now second.now lifted
-        × IsMoveList first.now second.now lifted rows.items)) }
+/// The moves that lead from one plan to another, and how many containers have each class.
+fn changes_between(
+    alloc: Global,
+    first: &Plan<'_>,
+    second: &Plan<'_>,
+) -> Result<Changes, OutOfMemory>
+    requires first { AreContainers first.now }
+    requires second { AreContainers second.now }
+    ensures { IfOk result (AreChanges first.now second.now) }
 {
     let mut off = Vec::new(alloc);
     let mut on = Vec::new(alloc);
     fill(alloc, &mut off, &mut on, first, second)?;
+    let counts = counts_of(first, second, off.as_slice().len());
     off.append(&mut on)?;
-    Ok(off)
+    Ok(Changes::of(off, counts))
 }
 
-/// The moves that lead from the first plan to the second, in an order in which they can be made.
+/// The moves that lead from the first plan to the second, in an order in which they can be made, and how many
+/// containers have each class.
 pub fn changes(alloc: Global, first: &BayPlan, second: &BayPlan) -> Result<Changes, OutOfMemory>
     ensures moves { IfOk result (AreChanges first.now.containers second.now.containers) }
+    ensures sums { IfOk result (AddUp first.now.containers second.now.containers) }
 
     // They lead from the first plan to the second, each one legal, and no fewer do.
     ensures leads { IfOk result (λ c. Leads
@@ -122,12 +135,15 @@ pub fn changes(alloc: Global, first: &BayPlan, second: &BayPlan) -> Result<Chang
     ensures least { IfOk result (λ c. (rows : List Row)
         → Leads (stands first.now.containers) rows (stands second.now.containers)
         → length c.rows ≤ length rows) }
+
+    // The reader of stowage lists makes them of their text, for every ship that has the hatches.
+    ensures reads { IfOk result (λ c. (ship : ShipView)
+        → moves_in ship (list_text c.rows) ≡ read_for ship c.rows) }
 {
     let first = Plan::new(alloc, first.containers())?;
     let second = Plan::new(alloc, second.containers())?;
-    let rows = rows_between(alloc, &first, &second);
+    let found = changes_between(alloc, &first, &second);
     drop(first);
     drop(second);
-    let rows = rows?;
-    Ok(Changes::of(rows))
+    found
 }

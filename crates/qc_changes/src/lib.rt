@@ -7,6 +7,7 @@
 mod between;
 mod class;
 mod column;
+mod counts;
 mod floors;
 mod laws;
 mod lift;
@@ -17,5 +18,6 @@ mod rows;
 
 pub use between::changes;
 pub use class::Class;
+pub use counts::Counts;
 pub use list::write_list;
 pub use outcome::Changes;

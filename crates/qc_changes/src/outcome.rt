@@ -1,7 +1,10 @@
 //! What leads from one plan to another.
 
 ghost use Rattle.std.specs.Prelude.{◌≡◌};
+ghost use Rattle.qc_changes.specs.Counts.{count_in};
 
+use crate::class::Class;
+use crate::counts::Counts;
 use qc_stow::Row;
 use std::marker::Model;
 
@@ -9,6 +12,7 @@ use std::marker::Model;
 #[derive(Drop)]
 pub struct Changes {
     rows: Vec<Row>,
+    counts: Counts,
 }
 
 impl Model for Changes {
@@ -16,15 +20,15 @@ impl Model for Changes {
 
     ghost Value = { ChangesView };
 
-    ghost view = { λ c. record { rows = c.rows.items } };
+    ghost view = { λ c. record { rows = c.rows.items; counts = c.counts } };
 }
 
 impl Changes {
-    /// The changes of these moves.
-    pub(crate) fn of(rows: Vec<Row>) -> Changes
-        ensures { result.rows ≡ rows.items }
+    /// The changes of these moves, of so many containers of each class.
+    pub(crate) fn of(rows: Vec<Row>, counts: Counts) -> Changes
+        ensures { result ≡ record { rows = rows.items; counts = counts } }
     {
-        Changes { rows }
+        Changes { rows, counts }
     }
 
     /// The moves in an order in which they can be made.
@@ -32,5 +36,12 @@ impl Changes {
         ensures { result.now ≡ self.now.rows }
     {
         self.rows.as_slice()
+    }
+
+    /// How many containers have this class.
+    pub fn count(&self, class: Class) -> usize
+        ensures { result ≡ count_in class self.now.counts }
+    {
+        self.counts.of(class)
     }
 }

@@ -4,6 +4,7 @@ ghost use Rattle.std.specs.Prelude.{◌≡◌, ◌≢◌, [], AllPairs, IfOk, Li
 ghost use Rattle.std.specs.Option.{option_copied};
 ghost use Rattle.qc_bayplan.specs.declared.plan.Container.{Container};
 ghost use Rattle.qc_changes.specs.Classes.{is_still};
+ghost use Rattle.qc_changes.specs.Counts.{is_gone};
 ghost use Rattle.qc_changes.specs.Plans.{Tells, is_in, place_of};
 
 use indexmap::IndexMap;
@@ -93,6 +94,13 @@ impl<'a> Plan<'a> {
         ensures { result.now ≡ self.now }
     {
         self.containers
+    }
+
+    /// Whether the plan hasn't the container at all.
+    pub(crate) fn is_gone(&self, container: &Container) -> bool
+        ensures { result ≡ is_gone self.now container.now }
+    {
+        self.places.get(&container.id.as_bytes()).is_none()
     }
 
     /// Whether the plan has the container at the same cell.

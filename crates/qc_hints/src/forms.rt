@@ -5,7 +5,7 @@ use qc_page::nearest;
 use std::alloc::Global;
 
 /// The names of the commands.
-const NAMES: [&str; 12] = [
+const NAMES: [&str; 13] = [
     "plan",
     "check",
     "tasks",
@@ -18,10 +18,11 @@ const NAMES: [&str; 12] = [
     "watch",
     "picture",
     "report",
+    "moves",
 ];
 
 /// The commands, each with its operands and with its options in brackets.
-const LINES: [&str; 12] = [
+const LINES: [&str; 13] = [
     "plan SHIP STOW PLAN TREE [--nodes N] [--from OWN]",
     "check SHIP STOW PLAN TREE",
     "tasks SHIP STOW",
@@ -34,6 +35,7 @@ const LINES: [&str; 12] = [
     "watch SHIP LOG",
     "picture SHIP STOW PLAN",
     "report SHIP STOW PLAN",
+    "moves ARRIVAL DEPARTURE STOW",
 ];
 
 /// A command with its words.

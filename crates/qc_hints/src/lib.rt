@@ -21,5 +21,5 @@ pub use notes::say_notes;
 pub use order::say_idle_pair;
 pub use releases::say_idle_release;
 pub use ship::say_ship;
-pub use stow::say_stow;
+pub use stow::{say_stow, why_no_id, why_wrong_cell};
 pub use usage::say_usage;

@@ -73,7 +73,7 @@ fn say_fault(page: &mut Page, list: &List<'_>, fault: StowFault, ship: &Ship) {
 }
 
 /// Why a text is no id.
-fn why_no_id(field: &[u8]) -> &'static str {
+pub fn why_no_id(field: &[u8]) -> &'static str {
     if field.is_empty() {
         "it is missing"
     } else if field.len() > 20 {
@@ -149,7 +149,7 @@ fn why_no_cell(field: &[u8]) -> &'static str {
 }
 
 /// What is wrong with the text of a cell.
-fn why_wrong_cell(field: &[u8], fault: CellFault) -> &'static str {
+pub fn why_wrong_cell(field: &[u8], fault: CellFault) -> &'static str {
     match fault {
         CellFault::Length => why_no_cell(field),
         CellFault::Digit => match why_no_cell(field) {

@@ -35,7 +35,7 @@ fn say_number(page: &mut Page, name: &str, value: &str, least: u32, most: u32) -
     true
 }
 
-/// Says which two of the names of a command that plans are one.
+/// Says which two of the names of a command that writes are one.
 fn say_equal(page: &mut Page, form: &Form, sorted: &Sorted<'_>) {
     for (at, name) in sorted.operands.iter().enumerate() {
         if say_if_equal(page, form, sorted, at, name) {
@@ -69,7 +69,13 @@ fn say_same(page: &mut Page, form: &Form, this: &str, other: &str, name: &str) {
         .word(name)
         .text("\": ")
         .text(form.name)
-        .text(" needs four different names")
+        .text(" needs ")
+        .text(if form.name == "moves" {
+            "three"
+        } else {
+            "four"
+        })
+        .text(" different names")
         .end()
 }
 
@@ -269,6 +275,9 @@ fn say_behind(page: &mut Page, form: &Form, words: &[String]) {
 fn say_values(page: &mut Page, form: &Form, sorted: &Sorted<'_>) {
     if form.name == "make" {
         return say_made(page, sorted);
+    }
+    if form.name == "moves" {
+        return say_equal(page, form, sorted);
     }
     if !form.has_options() {
         return;

@@ -5,3 +5,4 @@ pub mod ReportLemmas
 pub mod RuleLemmas
 pub mod ToldLemmas
 pub mod AccountLemmas
+pub mod MadeLemmas

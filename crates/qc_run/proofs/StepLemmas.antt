@@ -3,6 +3,10 @@ use Rattle.std.proofs.Common.{◌≡◌, ◌⊎◌, ℕ, List, Option, None, Som
 use Rattle.std.proofs.lemmas.Bool.{cond_both}
 use Rattle.qc_num.specs.Reading.{◌>>=◌, with_fault}
 use Rattle.qc_io.specs.Outside.{Files, View}
+use Rattle.qc_bayplan.specs.Reading.{bay_plan_in}
+use Rattle.qc_bayplan.specs.declared.fault.BayPlanFault.{BayPlanFault}
+use Rattle.qc_bayplan.specs.declared.plan.Which.{Which}
+use Rattle.qc_bayplan.specs.declared.plan.Which.TheVariants.{Arrival, Departure}
 use Rattle.qc_gantt.specs.Plan.{plan_in}
 use Rattle.qc_model.specs.declared.turn.Turn.{Turn}
 use Rattle.qc_model.specs.Instance.{InstanceView, with_turn}
@@ -19,11 +23,11 @@ use Rattle.qc_run.specs.declared.refusal.Refusal.{Refusal}
 use Rattle.qc_run.specs.declared.refusal.Refusal.TheVariants as refusal
 use Rattle.qc_run.specs.declared.refusal.Stop.{Stop}
 use Rattle.qc_run.specs.declared.refusal.Stop.TheVariants as stop
-use Rattle.qc_run.specs.Inputs.{Names}
+use Rattle.qc_run.specs.Inputs.{IsWhole, Moving, Names, input_of, name_of, plans_named}
 use Rattle.qc_ship.specs.Keys.{fault}
 use Rattle.qc_ship.specs.declared.fault.Key.TheVariants as key
 use Rattle.qc_ship.specs.declared.fault.ShipKind.TheVariants as kind
-use Rattle.qc_run.specs.Due.{Contents, without, file_limit, input_due, instance_due, job_due, moves_due, order_due, contents_in, schedule_due, ship_due, within_limit}
+use Rattle.qc_run.specs.Due.{Contents, without, bay_plan_due, file_limit, input_due, instance_due, job_due, moves_due, order_due, contents_in, schedule_due, ship_due, within_limit}
 use Rattle.qc_run.specs.Steps.{ComesTo, IsDue, IsStep, Stops}
 use Rattle.qc_run.proofs.DueLemmas.{stops_from}
 
@@ -187,6 +191,8 @@ input_steady input.Plan input.Plan contents = inr refl
 input_steady input.Tree input.Tree contents = inr refl
 input_steady input.Own input.Own contents = inr refl
 input_steady input.Log input.Log contents = inr refl
+input_steady input.Arrival input.Arrival contents = inr refl
+input_steady input.Departure input.Departure contents = inr refl
 input_steady read file contents = inl refl
 
 pub then_steady : {A B : Type 0} (step : Contents → Result A Refusal) (next : A → Contents → Result B Refusal) → Steady step → ((a : A) → Steady (next a))
@@ -210,6 +216,8 @@ same_turn input.Plan contents = refl
 same_turn input.Tree contents = refl
 same_turn input.Own contents = refl
 same_turn input.Log contents = refl
+same_turn input.Arrival contents = refl
+same_turn input.Departure contents = refl
 
 pub ship_steady : Steady ship_due
 ship_steady = then_steady (input_due input.Ship) (λ bytes _. with_fault refusal.BadShip (ship_file bytes)) (input_steady input.Ship) (λ bytes file contents. inl refl)
@@ -222,6 +230,40 @@ instance_steady =
     then_steady ship_due (λ ship contents. moves_due ship contents >>= λ rows. order_due ship rows >>= λ inst. Ok (with_turn inst contents.turn)) ship_steady
     (λ ship. then_steady (moves_due ship) (λ rows contents. order_due ship rows >>= λ inst. Ok (with_turn inst contents.turn)) (moves_steady ship)
     (λ rows file contents. inl (ap (λ (turn : Turn). order_due ship rows >>= λ inst. Ok (with_turn inst turn)) (same_turn file contents))))
+
+-- a bay plan's file is named, and is read whole
+pub plan_named : (which : Which) (asked : Moving) → IsSome (name_of (input_of which) (plans_named asked))
+plan_named Arrival asked = refl
+plan_named Departure asked = refl
+
+pub plan_whole : (which : Which) (asked : Moving) → IsWhole (input_of which) (plans_named asked)
+plan_whole Arrival asked = refl
+plan_whole Departure asked = refl
+
+pub plan_steady : (which : Which) → Steady (bay_plan_due which)
+plan_steady which = then_steady (input_due (input_of which)) (λ bytes _. with_fault (refusal.BadBayPlan which) (bay_plan_in which bytes)) (input_steady (input_of which)) (λ bytes file contents. inl refl)
+
+-- a fault of a bay plan, whose file was read
+pub plan_refused : (which : Which) (asked : Moving) {before after : View} {bytes : List ℕ}
+    → IsStep (input_due (input_of which)) (plans_named asked) before after (Ok bytes) → (fault : BayPlanFault) → bay_plan_in which bytes ≡ Err fault
+    → IsStep (bay_plan_due which) (plans_named asked) before after (Err (stop.Refused (refusal.BadBayPlan which fault)))
+plan_refused which asked {before = before} {bytes = bytes} first fault bad = record {
+  ok = tt;
+  err = (
+    first.ok.0,
+    comes_then (input_due (input_of which)) (λ read _. with_fault (refusal.BadBayPlan which) (bay_plan_in which read)) (plans_named asked) before.files bytes
+        (Err (refusal.BadBayPlan which fault)) first.ok.1 (told before.files),
+  );
+  may = plan_named which asked;
+  files = first.files;
+  made = first.made;
+  faults = first.faults;
+  read_faults = first.read_faults;
+}
+  where
+    told : (files : Option Files) → IfSome files (λ held. with_fault (refusal.BadBayPlan which) (bay_plan_in which bytes) ≡ Err (refusal.BadBayPlan which fault))
+    told None = tt
+    told (Some held) = ap (with_fault (refusal.BadBayPlan which)) bad
 
 -- ---- no fault of a tree or of a log comes of the other files
 

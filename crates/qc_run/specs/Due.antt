@@ -3,6 +3,10 @@ use Rattle.std.specs.Prelude.{ℕ, List, length, nat_le, if◌then◌else◌, Op
 use Rattle.std.specs.FinMap.{get}
 use Rattle.qc_num.specs.Reading.{◌>>=◌, with_fault}
 use Rattle.qc_io.specs.Outside.{Files}
+use Rattle.qc_bayplan.specs.Plan.{PlanView}
+use Rattle.qc_bayplan.specs.Reading.{bay_plan_in}
+use Rattle.qc_bayplan.specs.declared.plan.Which.{Which}
+use Rattle.qc_bayplan.specs.declared.plan.Which.TheVariants.{Arrival, Departure}
 use Rattle.qc_gantt.specs.Plan.{plan_in}
 use Rattle.qc_model.specs.declared.schedule.Slot.{Slot}
 use Rattle.qc_model.specs.Instance.{InstanceView, with_turn}
@@ -18,9 +22,10 @@ use Rattle.qc_watch.specs.declared.report.Report.{Report}
 use Rattle.qc_watch.specs.Log.{reports_in}
 use Rattle.qc_run.specs.declared.inputs.Input.{Input}
 use Rattle.qc_run.specs.declared.inputs.Input.TheVariants as input
-use Rattle.qc_run.specs.Inputs.{Names, PerInput, of_input}
+use Rattle.qc_run.specs.Inputs.{Names, PerInput, input_of, of_input}
 use Rattle.qc_run.specs.declared.refusal.Refusal.{Refusal}
 use Rattle.qc_run.specs.declared.refusal.Refusal.TheVariants as refusal
+use Rattle.qc_run.specs.declared.bay_plans.BayPlans.{BayPlans}
 use Rattle.qc_run.specs.declared.reading.Job.{Job}
 use Rattle.qc_run.specs.declared.reading.OwnJob.{OwnJob}
 use Rattle.qc_run.specs.declared.refusal.LogFault.TheVariants as log
@@ -38,6 +43,8 @@ without input.Plan contents = record contents { plan = None }
 without input.Tree contents = record contents { tree = None }
 without input.Own contents = record contents { own = None }
 without input.Log contents = record contents { log = None }
+without input.Arrival contents = record contents { arrival = None }
+without input.Departure contents = record contents { departure = None }
 
 -- what a command finds in these files
 abbrev pub contents_in : Files → Names → Contents
@@ -48,6 +55,8 @@ contents_in held names = record {
   tree = option_and_then (get held) names.tree;
   own = option_and_then (get held) names.own;
   log = option_and_then (get held) names.log;
+  arrival = option_and_then (get held) names.arrival;
+  departure = option_and_then (get held) names.departure;
   turn = names.turn;
 }
 
@@ -129,3 +138,16 @@ watched_due contents = do
   ship ← ship_due contents
   reports ← reports_due ship contents
   Ok (record { ship = ship; reports = reports })
+
+-- the plan in a bay plan's file, or the first refusal of that file
+abbrev pub bay_plan_due : Which → Contents → Result PlanView Refusal
+bay_plan_due which contents = do
+  bytes ← input_due (input_of which) contents
+  with_fault (refusal.BadBayPlan which) (bay_plan_in which bytes)
+
+-- both bay plans, or the first refusal: that for the departure comes last
+abbrev pub bay_plans_due : Contents → Result BayPlans Refusal
+bay_plans_due contents = do
+  arrival ← bay_plan_due Arrival contents
+  departure ← bay_plan_due Departure contents
+  Ok (record { arrival = arrival; departure = departure })

@@ -1,10 +1,13 @@
 -- public: the names of the files that a command reads, by what each is for, and how cranes may move.
 use Rattle.std.specs.Prelude.{List, ℕ, Option, None, Some, IsSome, option_map}
+use Rattle.qc_bayplan.specs.declared.plan.Which.{Which}
+use Rattle.qc_bayplan.specs.declared.plan.Which.TheVariants.{Arrival, Departure}
 use Rattle.qc_model.specs.declared.turn.Turn.{Turn}
 use Rattle.qc_model.specs.declared.turn.Turn.TheVariants.{OneWay}
 use Rattle.qc_run.specs.declared.inputs.Input.{Input}
 use Rattle.qc_run.specs.declared.inputs.Input.TheVariants as input
 use Rattle.qc_run.specs.declared.inputs.Inputs.{Inputs}
+use Rattle.qc_run.specs.declared.inputs.MovesAsked.{MovesAsked}
 use Rattle.qc_run.specs.declared.inputs.PlanAsked.{PlanAsked}
 
 -- one for each file, by what it is for; none where the command reads no such file; and the turn of the instance: whether
@@ -16,6 +19,8 @@ pub record PerInput : Type 0 where
   pub tree : Option (List ℕ)
   pub own : Option (List ℕ)
   pub log : Option (List ℕ)
+  pub arrival : Option (List ℕ)
+  pub departure : Option (List ℕ)
   pub turn : Turn
 
 abbrev pub of_input : Input → PerInput → Option (List ℕ)
@@ -25,6 +30,8 @@ of_input input.Plan each = each.plan
 of_input input.Tree each = each.tree
 of_input input.Own each = each.own
 of_input input.Log each = each.log
+of_input input.Arrival each = each.arrival
+of_input input.Departure each = each.departure
 
 -- the names
 abbrev pub Names : Type 0
@@ -35,8 +42,17 @@ name_of = of_input
 
 -- the command reads no file; cranes go one way
 abbrev pub no_names : Names
-no_names =
-    record { ship = None; stow = None; plan = None; tree = None; own = None; log = None; turn = OneWay }
+no_names = record {
+  ship = None;
+  stow = None;
+  plan = None;
+  tree = None;
+  own = None;
+  log = None;
+  arrival = None;
+  departure = None;
+  turn = OneWay;
+}
 
 abbrev pub names_of : Inputs → Names
 names_of inputs = record {
@@ -46,6 +62,8 @@ names_of inputs = record {
   tree = option_map (λ name. name.now) inputs.tree;
   own = option_map (λ name. name.now) inputs.own;
   log = option_map (λ name. name.now) inputs.log;
+  arrival = None;
+  departure = None;
   turn = inputs.turn;
 }
 
@@ -60,6 +78,25 @@ pub record Planning : Type 0 where
 abbrev pub planning : PlanAsked → Planning
 planning asked =
     record { inputs = names_of asked.inputs; plan = asked.plan.now; tree = asked.tree.now; nodes = asked.nodes }
+
+-- what a list of moves is asked for with: the names of two bay plans, which are read, and that of the list, which is written
+pub record Moving : Type 0 where
+  pub arrival : List ℕ
+  pub departure : List ℕ
+  pub stow : List ℕ
+
+abbrev pub moving : MovesAsked → Moving
+moving asked =
+    record { arrival = asked.arrival.now; departure = asked.departure.now; stow = asked.stow.now }
+
+-- the files that it reads
+abbrev pub plans_named : Moving → Names
+plans_named asked = record no_names { arrival = Some asked.arrival; departure = Some asked.departure }
+
+-- the file that holds a bay plan
+abbrev pub input_of : Which → Input
+input_of Arrival = input.Arrival
+input_of Departure = input.Departure
 
 -- the command reads the file whole; a tree's file is read line by line
 abbrev pub IsWhole : Input → Names → Type 0

@@ -7,7 +7,7 @@ use Rattle.qc_run.specs.declared.refusal.Refusal.TheVariants as refusal
 use Rattle.qc_run.specs.declared.refusal.Stop.{Stop}
 use Rattle.qc_run.specs.declared.refusal.Stop.TheVariants as stop
 use Rattle.qc_run.specs.Due.{Contents, contents_in, without}
-use Rattle.qc_run.specs.Inputs.{IsWhole, Names, name_of}
+use Rattle.qc_run.specs.Inputs.{IsWhole, Names, input_of, name_of}
 
 -- where the shelf tells its files, the step comes to this on them
 abbrev pub ComesTo :
@@ -51,6 +51,7 @@ MayRefuse names (refusal.BadStow fault) = IsSome names.stow
 MayRefuse names (refusal.BadPlan fault) = IsSome names.plan ⊎ IsSome names.own
 MayRefuse names (refusal.BadTree fault) = IsSome names.tree
 MayRefuse names (refusal.BadLog fault) = IsSome names.log
+MayRefuse names (refusal.BadBayPlan which fault) = IsSome (name_of (input_of which) names)
 
 -- want of memory comes of any command
 abbrev pub MayStop : Names → Stop → Type 0

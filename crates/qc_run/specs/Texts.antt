@@ -1,5 +1,8 @@
 -- public: the exit status of each status, and what is printed where a command stops.
 use Rattle.std.specs.Prelude.{ℕ, List, [], ◌∷◌, ◌++◌, codes, decimal}
+use Rattle.qc_bayplan.specs.Faults.{kind_text as bay_plan_text}
+use Rattle.qc_bayplan.specs.declared.fault.BayPlanFault.{BayPlanFault}
+use Rattle.qc_bayplan.specs.declared.plan.Which.{Which}
 use Rattle.qc_gantt.specs.Faults.{kind_text as plan_kind_text}
 use Rattle.qc_gantt.specs.declared.fault.PlanFault.{PlanFault}
 use Rattle.qc_model.specs.declared.direction.Direction.{Direction}
@@ -14,6 +17,7 @@ use Rattle.qc_stow.specs.Faults.{kind_text as stow_text}
 use Rattle.qc_stow.specs.declared.fault.StowFault.{StowFault}
 use Rattle.qc_run.specs.declared.inputs.Input.{Input}
 use Rattle.qc_run.specs.declared.inputs.Input.TheVariants as input
+use Rattle.qc_run.specs.Inputs.{input_of}
 use Rattle.qc_dispatch.specs.Faults.{kind_text as dispatch_text}
 use Rattle.qc_watch.specs.Faults.{kind_text as watch_text}
 use Rattle.qc_run.specs.declared.refusal.LogFault.{LogFault}
@@ -45,6 +49,7 @@ status_code status.Weaker = 14
 status_code status.TooLarge = 15
 status_code status.BadLog = 17
 status_code status.Breach = 18
+status_code status.BadBayPlan = 19
 
 abbrev pub input_text : Input → List ℕ
 input_text input.Ship = codes "ship"
@@ -53,9 +58,11 @@ input_text input.Plan = codes "plan"
 input_text input.Tree = codes "tree"
 input_text input.Own = codes "own"
 input_text input.Log = codes "log"
+input_text input.Arrival = codes "arrival"
+input_text input.Departure = codes "departure"
 
 abbrev pub usage_text : List ℕ
-usage_text = codes "Usage\nqc plan SHIP STOW PLAN TREE [--nodes N] [--from OWN]\nqc check SHIP STOW PLAN TREE\nqc tasks SHIP STOW\nqc show SHIP STOW PLAN\nqc make NUMBER HATCHES CRANES\nqc free SHIP STOW PLAN TREE [--nodes N] [--from OWN]\nqc freecheck SHIP STOW PLAN TREE\nqc sheet SHIP STOW PLAN\nqc dispatch SHIP STOW PLAN LOG\nqc watch SHIP LOG\nqc picture SHIP STOW PLAN\nqc report SHIP STOW PLAN\n"
+usage_text = codes "Usage\nqc plan SHIP STOW PLAN TREE [--nodes N] [--from OWN]\nqc check SHIP STOW PLAN TREE\nqc tasks SHIP STOW\nqc show SHIP STOW PLAN\nqc make NUMBER HATCHES CRANES\nqc free SHIP STOW PLAN TREE [--nodes N] [--from OWN]\nqc freecheck SHIP STOW PLAN TREE\nqc sheet SHIP STOW PLAN\nqc dispatch SHIP STOW PLAN LOG\nqc watch SHIP LOG\nqc picture SHIP STOW PLAN\nqc report SHIP STOW PLAN\nqc moves ARRIVAL DEPARTURE STOW\n"
 
 -- a line: the text and a line feed
 abbrev pub line : List ℕ → List ℕ
@@ -93,6 +100,16 @@ abbrev pub bad_log_text : LogFault → List ℕ
 bad_log_text (log.Watch fault) = fault_text (codes "BadLog ") (watch_text fault.kind) fault.line
 bad_log_text (log.Dispatch fault) = fault_text (codes "BadLog ") (dispatch_text fault.kind) fault.line
 
+-- the word for a bay plan
+abbrev pub which_text : Which → List ℕ
+which_text which = input_text (input_of which)
+
+-- the line of a fault in a bay plan: how it is bad, which plan, and the number of its segment
+abbrev pub bad_bay_plan_text : Which → BayPlanFault → List ℕ
+bad_bay_plan_text which fault =
+    codes "BadBayPlan " ++ bay_plan_text fault.kind ++ codes " " ++ which_text which ++ codes " " ++ decimal fault.number
+    ++ codes "\n"
+
 abbrev pub direction_text : Direction → List ℕ
 direction_text Up = codes "up"
 direction_text Down = codes "down"
@@ -107,6 +124,7 @@ refusal_text (refusal.BadStow fault) = bad_stow_text fault
 refusal_text (refusal.BadPlan fault) = bad_plan_text fault
 refusal_text (refusal.BadTree fault) = bad_tree_text fault
 refusal_text (refusal.BadLog fault) = bad_log_text fault
+refusal_text (refusal.BadBayPlan which fault) = bad_bay_plan_text which fault
 
 abbrev pub refusal_status : Refusal → Status
 refusal_status refusal.Usage = status.Usage
@@ -117,6 +135,7 @@ refusal_status (refusal.BadStow fault) = status.BadStow
 refusal_status (refusal.BadPlan fault) = status.BadPlan
 refusal_status (refusal.BadTree fault) = status.BadTree
 refusal_status (refusal.BadLog fault) = status.BadLog
+refusal_status (refusal.BadBayPlan which fault) = status.BadBayPlan
 
 -- what is printed where a request stops
 abbrev pub stop_text : Stop → List ℕ

@@ -1,8 +1,10 @@
-//! The lines of faults in a ship file, in a stowage list, in a plan's file, in a tree's file and in a log.
+//! The lines of faults in a ship file, in a stowage list, in a plan's file, in a tree's file, in a log and in a bay
+//! plan.
 ghost use Rattle.std.specs.Prelude.{◌≡◌, ◌≤◌, length};
-ghost use Rattle.qc_run.specs.Texts.{bad_log_text, bad_ship_text, fault_text, place_line, bad_plan_text, bad_stow_text, bad_tree_text};
+ghost use Rattle.qc_run.specs.Texts.{bad_bay_plan_text, which_text, bad_log_text, bad_ship_text, fault_text, place_line, bad_plan_text, bad_stow_text, bad_tree_text};
 
 use crate::refusal::LogFault;
+use qc_bayplan::{BayPlanFault, Which};
 use qc_gantt::PlanFault;
 use qc_num::Text;
 use qc_ship::{ShipFault, ShipKind};
@@ -76,4 +78,29 @@ pub(crate) fn log_fault_line(fault: LogFault) -> Text<512>
         LogFault::Watch(fault) => fault_line(b"BadLog ", fault.kind.text(), fault.line),
         LogFault::Dispatch(fault) => fault_line(b"BadLog ", fault.kind.text(), fault.line),
     }
+}
+
+/// The word for a bay plan in a report.
+fn which_text(which: Which) -> &'static str
+    ensures text { result.now ≡ which_text which }
+    ensures short { length result.now ≤ 9 }
+{
+    match which {
+        Which::Arrival => "arrival",
+        Which::Departure => "departure",
+    }
+}
+
+/// The line of a fault in a bay plan.
+pub(crate) fn bay_plan_fault_line(which: Which, fault: BayPlanFault) -> Text<512>
+    ensures { result ≡ bad_bay_plan_text which fault }
+{
+    let mut line = Text::of(b"BadBayPlan ");
+    line.push(fault.kind.text().as_bytes());
+    line.push(b" ");
+    line.push(which_text(which).as_bytes());
+    line.push(b" ");
+    line.push_number(u64::from(fault.number));
+    line.push(b"\n");
+    line
 }

@@ -1,10 +1,12 @@
 //! The files that a command reads.
 ghost use Rattle.std.specs.Prelude.{◌≡◌, Some, option_map};
-ghost use Rattle.qc_run.specs.Inputs.{name_of, names_of, no_names};
+ghost use Rattle.qc_run.specs.Inputs.{input_of, moving, name_of, names_of, no_names, plans_named};
 
+use qc_bayplan::Which;
 use qc_model::Turn;
 
-/// A file that a command reads, by what it is for. `Own` is a plan that the planner has already.
+/// A file that a command reads, by what it is for. `Own` is a plan that the planner has already, `Arrival` and
+/// `Departure` are the bay plans of a call at a port.
 #[derive(Clone, Copy, PartialEq, Eq)]
 pub enum Input {
     Ship,
@@ -13,10 +15,11 @@ pub enum Input {
     Tree,
     Own,
     Log,
+    Arrival,
+    Departure,
 }
 
-/// The names of the files that a command reads, of which every one reads a ship file: the others where it reads
-/// them. `own` is a plan that the planner has already. `turn` says which schedules are asked about: those that go
+/// The names of the files that a command reads that reads a ship file: the others where it reads them. `own` is a plan that the planner has already. `turn` says which schedules are asked about: those that go
 /// one way, or all that are feasible.
 #[derive(Clone, Copy)]
 pub struct Inputs<'a> {
@@ -56,6 +59,8 @@ impl<'a> Inputs<'a> {
             Input::Tree => self.tree,
             Input::Own => self.own,
             Input::Log => self.log,
+            Input::Arrival => None,
+            Input::Departure => None,
         }
     }
 }
@@ -71,4 +76,37 @@ pub struct PlanAsked<'a> {
     pub tree: &'a str,
     /// How many branchings the search takes at most.
     pub nodes: u32,
+}
+
+/// What a list of moves is asked for with.
+#[derive(Clone, Copy)]
+pub struct MovesAsked<'a> {
+    /// The bay plan of the ship as it arrives, which is read.
+    pub arrival: &'a str,
+    /// The bay plan for its departure, which is read.
+    pub departure: &'a str,
+    /// The stowage list, which is written.
+    pub stow: &'a str,
+}
+
+/// The file that holds a bay plan.
+pub(crate) fn input_of(which: Which) -> Input
+    ensures { result ≡ input_of which }
+{
+    match which {
+        Which::Arrival => Input::Arrival,
+        Which::Departure => Input::Departure,
+    }
+}
+
+impl<'a> MovesAsked<'a> {
+    /// The name of the file that holds this bay plan.
+    pub fn name_of(&self, which: Which) -> &'a str
+        ensures { Some result.now ≡ name_of (input_of which) (plans_named (moving self.now)) }
+    {
+        match which {
+            Which::Arrival => self.arrival,
+            Which::Departure => self.departure,
+        }
+    }
 }

@@ -3,10 +3,12 @@ ghost use Rattle.std.specs.Prelude.{◌≡◌, ◌++◌, codes};
 ghost use Rattle.qc_run.specs.Texts.{input_text, line, refusal_status, refusal_text, stop_status, stop_text};
 
 use crate::faults::{
-    log_fault_line, plan_fault_line, ship_fault_line, stow_fault_line, tree_fault_line,
+    bay_plan_fault_line, log_fault_line, plan_fault_line, ship_fault_line, stow_fault_line,
+    tree_fault_line,
 };
 use crate::inputs::Input;
 use crate::status::Status;
+use qc_bayplan::{BayPlanFault, Which};
 use qc_dispatch::DispatchFault;
 use qc_gantt::PlanFault;
 use qc_num::{OutOfMemory, Text};
@@ -36,6 +38,7 @@ pub enum Refusal {
     BadPlan(PlanFault),
     BadTree(TreeFault),
     BadLog(LogFault),
+    BadBayPlan(Which, BayPlanFault),
 }
 
 /// Why a command was given up before anything was written.
@@ -68,6 +71,7 @@ qc dispatch SHIP STOW PLAN LOG
 qc watch SHIP LOG
 qc picture SHIP STOW PLAN
 qc report SHIP STOW PLAN
+qc moves ARRIVAL DEPARTURE STOW
 ";
 
 /// The line of a file that couldn't be read.
@@ -81,6 +85,8 @@ fn unread_line(file: Input) -> Text<512>
         Input::Tree => Text::of(b"ReadFault tree\n"),
         Input::Own => Text::of(b"ReadFault own\n"),
         Input::Log => Text::of(b"ReadFault log\n"),
+        Input::Arrival => Text::of(b"ReadFault arrival\n"),
+        Input::Departure => Text::of(b"ReadFault departure\n"),
     }
 }
 
@@ -95,6 +101,8 @@ fn large_line(file: Input) -> Text<512>
         Input::Tree => Text::of(b"TooLarge tree\n"),
         Input::Own => Text::of(b"TooLarge own\n"),
         Input::Log => Text::of(b"TooLarge log\n"),
+        Input::Arrival => Text::of(b"TooLarge arrival\n"),
+        Input::Departure => Text::of(b"TooLarge departure\n"),
     }
 }
 
@@ -111,6 +119,7 @@ fn refusal_text(why: Refusal) -> Text<512>
         Refusal::BadPlan(fault) => plan_fault_line(fault),
         Refusal::BadTree(fault) => tree_fault_line(fault),
         Refusal::BadLog(fault) => log_fault_line(fault),
+        Refusal::BadBayPlan(which, fault) => bay_plan_fault_line(which, fault),
     }
 }
 
@@ -126,6 +135,7 @@ fn refusal_status(why: Refusal) -> Status
         Refusal::BadPlan(_) => Status::BadPlan,
         Refusal::BadTree(_) => Status::BadTree,
         Refusal::BadLog(_) => Status::BadLog,
+        Refusal::BadBayPlan(_, _) => Status::BadBayPlan,
     }
 }
 

@@ -35,6 +35,7 @@ pub enum Status {
     BadLog,
     /// Two cranes were too near.
     Breach,
+    BadBayPlan,
 }
 
 impl Status {
@@ -60,6 +61,7 @@ impl Status {
             Status::TooLarge => 15,
             Status::BadLog => 17,
             Status::Breach => 18,
+            Status::BadBayPlan => 19,
         }
     }
 }

@@ -19,6 +19,9 @@ use Rattle.qc_judge_commands.proofs.JudgedLemmas.{plan_check_promises}
 use Rattle.qc_judge_commands.proofs.TreeLemmas.{tree_promises}
 use Rattle.qc_model.specs.declared.schedule.Slot.{Slot}
 use Rattle.qc_model.specs.Instance.{InstanceView}
+use Rattle.qc_moves_command.specs.Account.{IsMovesRun}
+use Rattle.qc_moves_command.specs.Promises.{MovesPromises}
+use Rattle.qc_moves_command.proofs.MovesLemmas.{moves_promises}
 use Rattle.qc_picture_command.specs.Account.{picture_reader, report_reader}
 use Rattle.qc_picture_command.specs.declared.answer.Printed.{Printed}
 use Rattle.qc_picture_command.specs.declared.answer.Printed.TheVariants as printed
@@ -34,7 +37,7 @@ use Rattle.qc_run.specs.declared.status.Status.{Status}
 use Rattle.qc_run.specs.declared.status.Status.TheVariants as status
 use Rattle.qc_run.specs.Account as account
 use Rattle.qc_run.specs.Account.{IsFound, IsReaderRun, IsReading}
-use Rattle.qc_run.specs.Inputs.{Names, Planning}
+use Rattle.qc_run.specs.Inputs.{Moving, Names, Planning}
 use Rattle.qc_run.specs.Reports.{Printing, Prints, PrintsPart, Reports}
 use Rattle.qc_run.specs.Steps.{Stops}
 use Rattle.qc_run.specs.Texts.{stop_status, stop_text}
@@ -53,12 +56,12 @@ use Rattle.qc_log_commands.specs.declared.watching.Watching.TheVariants as watch
 use Rattle.qc_log_commands.specs.WatchAccount.{watch_reader}
 use Rattle.qc_log_commands.specs.WatchTexts.{watching_status}
 use Rattle.qc_words.proofs.LimitLemmas.{asked_kept}
-use Rattle.qc_words.specs.Asked.{Asked, KeepsLimits, are_different, is_same, read, plan, make, help, version, usage}
+use Rattle.qc_words.specs.Asked.{Asked, KeepsLimits, are_different, is_same, read, plan, list, make, help, version, usage}
 use Rattle.qc_words.specs.declared.asked.Reader.{Reader}
 use Rattle.qc_words.specs.declared.asked.Reader.TheVariants as reader
 use Rattle.qc_words.specs.Words.{Asks}
 use Rattle.qc_top.specs.Account.{IsAbout, IsReadBy, IsRun, IsRunOf, IsSaid, IsStopped, IsUsage}
-use Rattle.qc_top.specs.Promises.{IsPlan, Promises}
+use Rattle.qc_top.specs.Promises.{IsWriting, Promises}
 
 -- ---- want of memory for the words, as an answer of each command
 
@@ -72,6 +75,9 @@ module _ (v pb pa : View) (ended : Status)
     (reports : Reports (Prints (stop_text stop.OutOfMemory)) (PrintsPart (stop_text stop.OutOfMemory)) (stop_status stop.OutOfMemory) pb pa ended) where
   as_plan : (p : Planning) → IsPlanRun p v v pb pa ended
   as_plan p = record { answer = Err stop.OutOfMemory; serves = (refl, tt, refl, refl, refl); reports = reports }
+
+  as_list : (m : Moving) → IsMovesRun m v v pb pa ended
+  as_list m = record { answer = Err stop.OutOfMemory; serves = (refl, tt, refl, refl, refl); reports = reports }
 
   as_reader : {X A : Type 0} (of : account.Reader X A) (names : Names) → IsReaderRun of names v v pb pa ended
   as_reader of names = record {
@@ -217,6 +223,11 @@ module _ (words : List (List ℕ)) (before after pb pa : View) (ended : Status) 
       plan_promises asked before after pb pa ended
       (served (λ v. IsPlanRun asked before v pb pa ended) (λ reports. as_plan before pb pa ended reports asked) (serves (plan asked) asks))
 
+  lists_moves : (asked : Moving) → Asks words (list asked) → MovesPromises asked before after pb pa ended
+  lists_moves asked asks =
+      moves_promises asked before after pb pa ended
+      (served (λ v. IsMovesRun asked before v pb pa ended) (λ reports. as_list before pb pa ended reports asked) (serves (list asked) asks))
+
   own_stays : (asked : Planning) → Asks words (plan asked)
       → IfSome asked.inputs.own (λ own. IfSome before.files (λ held. IfSome after.files (λ now. get now own ≡ get held own)))
   own_stays asked asks = by asked.inputs.own (subst KeepsLimits asks (asked_kept words)).1
@@ -254,7 +265,7 @@ module _ (words : List (List ℕ)) (before after pb pa : View) (ended : Status) 
 
   -- what holds whatever is asked for
   record Whatever (asked : Asked) : Type 0 where
-    stays : ¬ IsPlan asked → after.files ≡ before.files
+    stays : ¬ IsWriting asked → after.files ≡ before.files
     usage_words : ended ≡ status.Usage → Asks words usage
     memory : ended ≡ status.OutOfMemory → Prints (codes "OutOfMemory\n") pb.written pa.written
 
@@ -316,6 +327,9 @@ module _ (words : List (List ℕ)) (before after pb pa : View) (ended : Status) 
   whatever (plan asked) asks =
       let p = plans asked asks in
       record { stays = λ never. absurd (never tt); usage_words = λ e. absurd (p.no_usage e); memory = p.out_of_memory }
+  whatever (list asked) asks =
+      let p = lists_moves asked asks in
+      record { stays = λ never. absurd (never tt); usage_words = λ e. absurd (p.no_usage e); memory = p.out_of_memory }
   whatever (read command names) asks = by_command command names (read command names) (reads command names asks)
   whatever (make n k c) asks = record {
     stays = λ never. ap (λ (v : View). v.files) (make_leaves n k c asks);
@@ -330,6 +344,7 @@ module _ (words : List (List ℕ)) (before after pb pa : View) (ended : Status) 
   pub promises : Promises words before after pb pa ended
   promises = record {
     plans = plans;
+    lists_moves = lists_moves;
     own_stays = own_stays;
     checks_tree = λ names asks. tree_promises names before after pb pa ended (reads reader.CheckTree names asks);
     checks_plan = λ names asks. plan_check_promises names before after pb pa ended (reads reader.Check names asks);

@@ -4,30 +4,35 @@ use Rattle.std.specs.Prelude.{◌≡◌, ◌⊎◌, ℕ, List, Option, None, Som
 use Rattle.std.specs.FinMap.{get}
 use Rattle.qc_io.specs.Outside.{View}
 use Rattle.qc_judge_commands.specs.Promises.{PlanCheckPromises, TreePromises}
+use Rattle.qc_moves_command.specs.Promises.{MovesPromises}
 use Rattle.qc_plan_command.specs.Promises.{PlanPromises}
 use Rattle.qc_run.specs.declared.refusal.Stop.TheVariants as stop
 use Rattle.qc_run.specs.declared.status.Status.{Status}
 use Rattle.qc_run.specs.declared.status.Status.TheVariants as status
-use Rattle.qc_run.specs.Inputs.{Names, Planning}
+use Rattle.qc_run.specs.Inputs.{Moving, Names, Planning}
 use Rattle.qc_run.specs.Reports.{Prints}
 use Rattle.qc_run.specs.Told.{EndsWith}
 use Rattle.qc_trial.specs.Account.{TrialPromises}
-use Rattle.qc_words.specs.Asked.{Asked, read, plan, make, help, version, usage}
+use Rattle.qc_words.specs.Asked.{Asked, read, plan, list, make, help, version, usage}
 use Rattle.qc_words.specs.declared.asked.Reader.TheVariants as reader
 use Rattle.qc_words.specs.Commands.{named}
 use Rattle.qc_words.specs.Words.{Asks, about}
 use Rattle.qc_top.specs.Account.{IsAbout, IsStopped, IsUsage}
 use Rattle.qc_words.specs.declared.commands.CommandName.{CommandName}
 
--- a plan is asked for
-abbrev pub IsPlan : Asked → Type 0
-IsPlan (plan asked) = Unit {0}
-IsPlan _ = ⊥
+-- a command that writes files is asked for
+abbrev pub IsWriting : Asked → Type 0
+IsWriting (plan asked) = Unit {0}
+IsWriting (list asked) = Unit {0}
+IsWriting _ = ⊥
 
 pub record Promises (words : List (List ℕ)) (before after out_before out_after : View) (ended : Status) : Type 0 where
   -- what each command promises: a plan by schedules that go one way, and one by all that are feasible
   pub plans : (asked : Planning) → Asks words (plan asked)
       → PlanPromises asked before after out_before out_after ended
+  -- a list of the moves between two bay plans
+  pub lists_moves : (asked : Moving) → Asks words (list asked)
+      → MovesPromises asked before after out_before out_after ended
   -- a check of schedules that go one way, and one of all that are feasible
   pub checks_tree : (names : Names) → Asks words (read reader.CheckTree names)
       → TreePromises names before after out_before out_after ended
@@ -37,9 +42,9 @@ pub record Promises (words : List (List ℕ)) (before after out_before out_after
   -- a plan leaves the planner's own plan as it is
   pub own_stays : (asked : Planning) → Asks words (plan asked) → IfSome asked.inputs.own (λ own.
       IfSome before.files (λ held. IfSome after.files (λ now. get now own ≡ get held own)))
-  -- making leaves the shelf untouched, and all but a plan leave the files
+  -- making leaves the shelf untouched, and all but what writes leave the files
   pub make_leaves : (n h c : ℕ) → Asks words (make n h c) → after ≡ before
-  pub files_stay : (asked : Asked) → Asks words asked → ¬ IsPlan asked → after.files ≡ before.files
+  pub files_stay : (asked : Asked) → Asks words asked → ¬ IsWriting asked → after.files ≡ before.files
   -- Usage comes only on words that ask for nothing, and there always, but that memory may be wanting for them; where
   -- no command begins them it is not
   pub usage_words : ended ≡ status.Usage → Asks words usage

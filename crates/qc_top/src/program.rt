@@ -10,6 +10,7 @@ ghost use Rattle.qc_top.specs.Promises.{Promises};
 use qc_io::{Shelf, Sink};
 use qc_judge_commands::{check_plan, check_tree, list_tasks, show};
 use qc_log_commands::{dispatch, watch};
+use qc_moves_command::list_moves;
 use qc_num::OutOfMemory;
 use qc_picture_command::{Print, print_plan};
 use qc_plan_command::plan;
@@ -62,6 +63,7 @@ fn serve<S: Shelf, K: Sink>(
     match *request {
         Request::Reads(reader, inputs) => read(alloc, reader, &inputs, shelf, out),
         Request::Plans(asked) => plan(alloc, &asked, shelf, out),
+        Request::Moves(asked) => list_moves(alloc, &asked, shelf, out),
         Request::Make {
             number,
             hatches,

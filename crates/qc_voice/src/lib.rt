@@ -3,6 +3,7 @@
 #![tactic(auto)]
 
 mod after;
+mod bay_plans;
 mod order;
 mod texts;
 mod voice;

@@ -32,7 +32,11 @@ pub(crate) fn names_of<'a>(request: &Request<'a>) -> Option<Names<'a>> {
             read: asked.inputs,
             written: Some(asked.plan),
         }),
-        Request::Make { .. } | Request::Help(_) | Request::Version | Request::Usage => None,
+        Request::Moves(_)
+        | Request::Make { .. }
+        | Request::Help(_)
+        | Request::Version
+        | Request::Usage => None,
     }
 }
 

@@ -3,6 +3,7 @@ ghost use Rattle.std.specs.Prelude.{◌≡◌};
 ghost use Rattle.qc_io.specs.Outside.{beside};
 ghost use Rattle.qc_voice.specs.Frame.{LeavesFiles};
 
+use crate::bay_plans::say_bay_plans;
 use crate::order::say_idle_entries;
 use crate::texts::{Names, again, instance_of, names_of, ship_of};
 use qc_explain::{
@@ -17,7 +18,7 @@ use qc_run::{Broken, Cause, Ended, Input, Inputs, LogFault, Refusal, Status};
 use qc_ship::ShipFault;
 use qc_stow::StowFault;
 use qc_tree::TreeFault;
-use qc_words::request_of;
+use qc_words::{Request, request_of};
 use std::alloc::Global;
 
 /// The word for a file in the usage text.
@@ -29,21 +30,34 @@ fn word_of(file: Input) -> &'static str {
         Input::Tree => "TREE",
         Input::Own => "OWN",
         Input::Log => "LOG",
+        Input::Arrival => "ARRIVAL",
+        Input::Departure => "DEPARTURE",
     }
 }
 
+/// What is said of a file that couldn't be read, and of one that is too large.
+pub(crate) const MISSING: &str = ", isn't there or can't be read";
+
+pub(crate) const LARGE: &str = ", has more than 8388608 bytes, and may have no more";
+
 /// What is said of a file that can't be read again to show its fault.
-const FAULT_UNSHOWN: &str = ", has the fault that was reported, and can't be read again to show it";
+pub(crate) const FAULT_UNSHOWN: &str =
+    ", has the fault that was reported, and can't be read again to show it";
 
 /// Says which file couldn't be read, or is too large, by its word in the usage text and its name.
+pub(crate) fn say_named(page: &mut Page, name: &str, file: Input, why: &str) {
+    page.line()
+        .word(name)
+        .text(": this file, ")
+        .text(word_of(file))
+        .text(why)
+        .end()
+}
+
+/// The same where the file is named.
 fn say_unread(page: &mut Page, inputs: &Inputs<'_>, file: Input, why: &str) {
     if let Some(name) = inputs.name_of(file) {
-        page.line()
-            .word(name)
-            .text(": this file, ")
-            .text(word_of(file))
-            .text(why)
-            .end()
+        say_named(page, name, file, why)
     }
 }
 
@@ -154,20 +168,14 @@ fn say_refusal<S: Shelf>(page: &mut Page, shelf: &mut S, inputs: &Inputs<'_>, wh
 {
     match why {
         Refusal::Usage => {}
-        Refusal::ReadFault(file) => {
-            say_unread(page, inputs, file, ", isn't there or can't be read")
-        }
-        Refusal::TooLarge(file) => say_unread(
-            page,
-            inputs,
-            file,
-            ", has more than 8388608 bytes, and may have no more",
-        ),
+        Refusal::ReadFault(file) => { say_unread(page, inputs, file, MISSING) }
+        Refusal::TooLarge(file) => say_unread(page, inputs, file, LARGE),
         Refusal::BadShip(fault) => say_bad_ship(page, shelf, inputs, fault),
         Refusal::BadStow(fault) => say_bad_stow(page, shelf, inputs, fault),
         Refusal::BadPlan(fault) => say_bad_plan(page, shelf, inputs, fault),
         Refusal::BadTree(fault) => say_bad_tree(page, shelf, inputs, fault),
         Refusal::BadLog(fault) => say_bad_log(page, shelf, inputs, fault),
+        Refusal::BadBayPlan(_, _) => {}
     }
 }
 
@@ -288,7 +296,9 @@ fn say_all<S: Shelf>(page: &mut Page, words: &[String], ended: &Ended, shelf: &m
     }
     let request = request_of(page.alloc(), words);
     if let Some(request) = page.unless_short(request) {
-        if let Some(names) = names_of(&request) {
+        if let Request::Moves(asked) = request {
+            say_bay_plans(page, shelf, &asked, ended)
+        } else if let Some(names) = names_of(&request) {
             say_files(page, shelf, &names, ended)
         }
     }

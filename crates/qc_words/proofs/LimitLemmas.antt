@@ -9,13 +9,13 @@ use Rattle.qc_model.specs.Numbers.{most_branchings, most_cranes, most_hatches}
 use Rattle.qc_model.specs.declared.turn.Turn.{Turn}
 use Rattle.qc_model.specs.declared.turn.Turn.TheVariants.{OneWay, Free}
 use Rattle.qc_num.specs.Digits.{number_in}
-use Rattle.qc_run.specs.Inputs.{Names, Planning}
+use Rattle.qc_run.specs.Inputs.{Moving, Names, Planning}
 use Rattle.qc_words.specs.declared.asked.Reader.TheVariants as reader
 use Rattle.qc_words.specs.declared.commands.CommandName.{CommandName}
 use Rattle.qc_words.specs.declared.commands.CommandName.TheVariants as name
-use Rattle.qc_words.specs.Asked.{Asked, KeepsLimits, are_different, given, help, most_number, plan, read, usage, version}
+use Rattle.qc_words.specs.Asked.{Asked, KeepsLimits, are_different, given, help, list, listing, most_number, plan, read, usage, version}
 use Rattle.qc_words.specs.Commands.{command_name, command_of, named, read_by}
-use Rattle.qc_words.specs.Words.{about, asked_by, asked_in, asked_of, check_in, is_help, listed, make_of, nodes_in, number_between, plan_in, plan_of, value_of}
+use Rattle.qc_words.specs.Words.{about, asked_by, asked_in, asked_of, check_in, is_help, listed, make_of, moves_in, nodes_in, number_between, plan_in, plan_of, value_of}
 
 abbrev IsBetween : ℕ → ℕ → Option ℕ → Type 0
 IsBetween least most number = IfSome number (λ n. (least ≤ n) × (n ≤ most))
@@ -59,6 +59,15 @@ search_kept turn rows = by (nodes_in (first_of (codes "nodes") rows)) (nodes_kep
     by None few = tt
     by (Some n) few = plan_kept (asked n) refl few.1
 
+moves_kept : (rows : List Row) → KeepsLimits (moves_in rows)
+moves_kept rows =
+    let asked : Moving = record {
+      arrival = value_of (codes "arrival") rows;
+      departure = value_of (codes "departure") rows;
+      stow = value_of (codes "stow") rows;
+    } in
+    cond_both (are_different (listing asked)) (list asked) usage KeepsLimits (λ yes. yes) (λ _. tt)
+
 check_kept : (turn : Turn) (rows : List Row) → KeepsLimits (check_in turn rows)
 check_kept turn rows =
     let word = value_of (codes "plan") rows in
@@ -78,6 +87,7 @@ command_kept name.Watch rows = refl
 command_kept name.Dispatch rows = (refl, refl, refl)
 command_kept name.Picture rows = (refl, refl)
 command_kept name.Report rows = (refl, refl)
+command_kept name.Moves rows = moves_kept rows
 command_kept name.Make rows = make_kept _ _ _ (number_kept 0 most_number (value_of (codes "number") rows))
     (number_kept 1 most_hatches (value_of (codes "hatches") rows)) (number_kept 1 most_cranes (value_of (codes "cranes") rows))
 

@@ -3,7 +3,7 @@ use Rattle.std.specs.Prelude.{ℕ, ◌≤◌, Bool, true, false, not, ◌&&◌, 
 use Rattle.std.specs.List.{list_any}
 use Rattle.std.specs.Str.{bytes_eq}
 use Rattle.qc_model.specs.Numbers.{most_branchings, most_cranes, most_hatches}
-use Rattle.qc_run.specs.Inputs.{Names, Planning, names_of, planning}
+use Rattle.qc_run.specs.Inputs.{Moving, Names, Planning, moving, names_of, planning}
 use Rattle.qc_words.specs.declared.asked.Reader.{Reader}
 use Rattle.qc_words.specs.declared.asked.Reader.TheVariants as reader
 use Rattle.qc_words.specs.declared.asked.Request.{Request}
@@ -19,6 +19,8 @@ pub data Asked : Type 0 where
   read : Reader → Names → Asked
   -- a plan and its tree, beside the planner's own plan where one is named
   plan : Planning → Asked
+  -- a list of the moves between two bay plans
+  list : Moving → Asked
   -- a ship and a list made from a number, planned and checked
   make : (number hatches cranes : ℕ) → Asked
   -- what the program does and its commands, or one command
@@ -32,6 +34,7 @@ pub data Asked : Type 0 where
 abbrev pub asked_for : Request → Asked
 asked_for (request.Reads reader files) = read reader (names_of files)
 asked_for (request.Plans asked) = plan (planning asked)
+asked_for (request.Moves asked) = list (moving asked)
 asked_for (request.Make number hatches cranes) = make number hatches cranes
 asked_for (request.Help of) = help of
 asked_for request.Version = version
@@ -52,6 +55,10 @@ abbrev pub given : Planning → List (Option (List ℕ))
 given asked =
     asked.inputs.ship ∷ asked.inputs.stow ∷ asked.inputs.own ∷ Some asked.plan ∷ Some asked.tree ∷ []
 
+-- and those that a list of moves is given
+abbrev pub listing : Moving → List (Option (List ℕ))
+listing asked = Some asked.arrival ∷ Some asked.departure ∷ Some asked.stow ∷ []
+
 -- the files that the command reads are named
 abbrev pub AreNamed : Reader → Names → Type 0
 AreNamed reader.Check names = IsSome names.stow × IsSome names.plan × IsSome names.tree
@@ -61,11 +68,12 @@ AreNamed reader.Watch names = IsSome names.log
 AreNamed reader.Dispatch names = IsSome names.stow × IsSome names.plan × IsSome names.log
 AreNamed _ names = IsSome names.stow × IsSome names.plan
 
--- the files that are read are named, a plan's names are different, and each number that is asked for is in its range
+-- the files that are read are named, the names of a command that writes are different, and each number that is asked for is in its range
 abbrev pub KeepsLimits : Asked → Type 0
 KeepsLimits (read reader names) = AreNamed reader names
 KeepsLimits (plan asked) =
     IsSome asked.inputs.stow × IsTrue (are_different (given asked)) × (asked.nodes ≤ most_branchings)
+KeepsLimits (list asked) = IsTrue (are_different (listing asked))
 KeepsLimits (make number hatches cranes) =
     (number ≤ most_number) × (1 ≤ hatches) × (hatches ≤ most_hatches)
     × (1 ≤ cranes) × (cranes ≤ most_cranes)

@@ -22,7 +22,8 @@ command_name word =
     else (if bytes_eq word (codes "dispatch") then Some name.Dispatch
     else (if bytes_eq word (codes "picture") then Some name.Picture
     else (if bytes_eq word (codes "report") then Some name.Report
-    else None)))))))))))
+    else (if bytes_eq word (codes "moves") then Some name.Moves
+    else None))))))))))))
 
 -- and that of a command line
 abbrev pub named : List (List ℕ) → Option CommandName
@@ -71,6 +72,8 @@ command_of name.Dispatch =
     command_with (codes "dispatch") (codes "ship" ∷ codes "stow" ∷ codes "plan" ∷ codes "log" ∷ [])
 command_of name.Picture = command_with (codes "picture") (codes "ship" ∷ codes "stow" ∷ codes "plan" ∷ [])
 command_of name.Report = command_with (codes "report") (codes "ship" ∷ codes "stow" ∷ codes "plan" ∷ [])
+command_of name.Moves =
+    command_with (codes "moves") (codes "arrival" ∷ codes "departure" ∷ codes "stow" ∷ [])
 
 -- what the command reads from the words, or nothing where it refuses them
 abbrev pub read_by : App → List (List ℕ) → Option (List Row)

@@ -8,8 +8,8 @@ use Rattle.qc_model.specs.Numbers.{most_branchings, most_cranes, most_hatches}
 use Rattle.qc_model.specs.declared.turn.Turn.{Turn}
 use Rattle.qc_model.specs.declared.turn.Turn.TheVariants.{OneWay, Free}
 use Rattle.qc_num.specs.Digits.{number_in}
-use Rattle.qc_run.specs.Inputs.{Names, Planning, no_names}
-use Rattle.qc_words.specs.Asked.{Asked, read, plan, make, help, version, usage, are_different, given, most_number}
+use Rattle.qc_run.specs.Inputs.{Moving, Names, Planning, no_names}
+use Rattle.qc_words.specs.Asked.{Asked, read, plan, list, make, help, version, usage, are_different, given, listing, most_number}
 use Rattle.qc_words.specs.declared.asked.Reader.TheVariants as reader
 use Rattle.qc_words.specs.Commands.{command_of, named, read_by, command_name}
 use Rattle.qc_words.specs.declared.commands.CommandName.{CommandName}
@@ -112,6 +112,17 @@ plan_in turn rows = option_map_or
     }))
     (nodes_in (first_of (codes "nodes") rows)) usage
 
+-- a list of moves, where its names are different
+abbrev pub moves_of : Moving → Asked
+moves_of asked = if are_different (listing asked) then list asked else usage
+
+abbrev pub moves_in : List Row → Asked
+moves_in rows = moves_of (record {
+  arrival = value_of (codes "arrival") rows;
+  departure = value_of (codes "departure") rows;
+  stow = value_of (codes "stow") rows;
+})
+
 -- what a command asks for by the values that were read
 abbrev pub asked_in : CommandName → List Row → Asked
 asked_in name.Plan rows = plan_in OneWay rows
@@ -129,9 +140,10 @@ asked_in name.Watch rows = read reader.Watch (watched rows)
 asked_in name.Dispatch rows = read reader.Dispatch (followed rows)
 asked_in name.Picture rows = read reader.Picture (planned rows)
 asked_in name.Report rows = read reader.Report (planned rows)
+asked_in name.Moves rows = moves_in rows
 
 -- what words ask of a command: Usage where no command begins them, where `clap` refuses them, where a
--- number isn't one in plain decimal and in range, and where a plan's names aren't different
+-- number isn't one in plain decimal and in range, and where the names of a command that writes aren't different
 abbrev pub asked_of : List (List ℕ) → Asked
 asked_of words = option_map_or
     (λ name. option_map_or (asked_in name) (read_by (command_of name) words) usage)

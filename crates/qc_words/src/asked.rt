@@ -1,7 +1,7 @@
 //! What the words ask for.
 
 use crate::commands::CommandName;
-use qc_run::{Inputs, PlanAsked};
+use qc_run::{Inputs, MovesAsked, PlanAsked};
 
 /// The greatest number that a ship and a list are made from.
 pub const MOST_NUMBER: u32 = 2_147_483_647;
@@ -36,6 +36,8 @@ pub enum Request<'a> {
     Reads(Reader, Inputs<'a>),
     /// A plan and its tree, that ends no later than the planner's own plan where one is named.
     Plans(PlanAsked<'a>),
+    /// A list of the moves between two bay plans.
+    Moves(MovesAsked<'a>),
     /// A ship and a list made from a number, planned and checked.
     Make {
         number: u32,

@@ -23,6 +23,7 @@ pub enum CommandName {
     Dispatch,
     Picture,
     Report,
+    Moves,
 }
 
 /// The command with this name.
@@ -42,6 +43,7 @@ pub(crate) fn command_name(word: &str) -> Option<CommandName>
         "dispatch" => Some(CommandName::Dispatch),
         "picture" => Some(CommandName::Picture),
         "report" => Some(CommandName::Report),
+        "moves" => Some(CommandName::Moves),
         _ => None,
     }
 }
@@ -116,5 +118,6 @@ pub fn command_of<'a>(alloc: Global, name: CommandName) -> Result<Command<'a>, A
         CommandName::Dispatch => command_with(alloc, "dispatch", &["ship", "stow", "plan", "log"]),
         CommandName::Picture => command_with(alloc, "picture", &["ship", "stow", "plan"]),
         CommandName::Report => command_with(alloc, "report", &["ship", "stow", "plan"]),
+        CommandName::Moves => command_with(alloc, "moves", &["arrival", "departure", "stow"]),
     }
 }

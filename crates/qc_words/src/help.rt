@@ -29,6 +29,8 @@ qc picture SHIP STOW PLAN
     a drawing of a plan in time and place, as an SVG
 qc report SHIP STOW PLAN
     the figures of each crane of a plan, as a CSV
+qc moves ARRIVAL DEPARTURE STOW
+    writes the list of moves that leads from one bay plan to another
 
 qc COMMAND --help tells more of one command, qc --version which program this is. With -q as the
 first word nothing is said on standard error.
@@ -142,6 +144,15 @@ Ends with 0, or 13 Broken.
 Faults end with 2 to 6, 8, 9 and 15, and are told by their kind and place: man 5 qc.
 ";
 
+const MOVES: &[u8] = b"qc moves ARRIVAL DEPARTURE STOW
+
+Reads the bay plans of a ship on arrival and for its departure, both BAPLIE messages of version 2 or
+3, and writes the stowage list of the moves that lead from the one to the other, with what must be
+lifted and put back.
+Ends with 0.
+Faults end with 2 to 4, 9, 15 and 19, and are told by their kind and place: man 5 qc.
+";
+
 const VERSION: &[u8] = b"qc 0.3.0
 proved with rattle-kit-13f logic dac8208d650f15bf
 ";
@@ -163,6 +174,7 @@ fn command_help(of: CommandName) -> &'static [u8]
         CommandName::Watch => WATCH,
         CommandName::Picture => PICTURE,
         CommandName::Report => REPORT,
+        CommandName::Moves => MOVES,
     }
 }
 

@@ -3,11 +3,11 @@
 ghost use Rattle.std.specs.Prelude.{◌≡◌, IfOk, IfSome, IsOk, IsTrue, option_map};
 ghost use Rattle.std.specs.Option.{option_map_or};
 ghost use Rattle.clap.specs.Words.{app_of, found_of, rows_of, first_of, is_simple_and_free};
-ghost use Rattle.qc_run.specs.Inputs.{names_of, planning};
-ghost use Rattle.qc_words.specs.Asked.{asked_for, usage, KeepsLimits, are_different, given, is_same};
+ghost use Rattle.qc_run.specs.Inputs.{moving, names_of, planning};
+ghost use Rattle.qc_words.specs.Asked.{asked_for, usage, KeepsLimits, are_different, given, is_same, listing};
 ghost use Rattle.qc_words.specs.Commands.{command_of, named, read_by};
 ghost use Rattle.qc_words.specs.declared.commands.CommandName.TheVariants as name;
-ghost use Rattle.qc_words.specs.Words.{Asks, about, asked_in, check_in, followed, listed, nodes_in, number_between, plan_in, planned, texts, value_of, watched};
+ghost use Rattle.qc_words.specs.Words.{Asks, about, asked_in, check_in, followed, listed, moves_in, nodes_in, number_between, plan_in, planned, texts, value_of, watched};
 
 use crate::about::about;
 use crate::asked::{MOST_NUMBER, Reader, Request};
@@ -16,7 +16,7 @@ use clap::error::ErrorKind;
 use clap::{ArgMatches, Command};
 use qc_model::{MOST_CRANES, MOST_HATCHES, Turn};
 use qc_num::{OutOfMemory, plain_number};
-use qc_run::{Inputs, PlanAsked};
+use qc_run::{Inputs, MovesAsked, PlanAsked};
 use qc_tree::MOST_BRANCHINGS;
 use std::alloc::Global;
 
@@ -190,6 +190,31 @@ fn plan_in<'a>(turn: Turn, matches: &ArgMatches<'a>) -> Request<'a>
     }
 }
 
+/// Whether no two of the names of a list of moves are equal.
+fn are_apart(asked: &MovesAsked<'_>) -> bool
+    ensures { result ≡ are_different (listing (moving asked.now)) }
+{
+    let (arrival, departure) = (Some(asked.arrival), Some(asked.departure));
+    let stow = Some(asked.stow);
+    !(is_same(arrival, departure) || is_same(arrival, stow)) && !is_same(departure, stow)
+}
+
+/// A list of moves, where its names are different.
+fn moves_in<'a>(matches: &ArgMatches<'a>) -> Request<'a>
+    ensures { asked_for result ≡ moves_in (rows_of (found_of matches.now)) }
+{
+    let asked = MovesAsked {
+        arrival: value_of(matches, "arrival"),
+        departure: value_of(matches, "departure"),
+        stow: value_of(matches, "stow"),
+    };
+    if are_apart(&asked) {
+        Request::Moves(asked)
+    } else {
+        Request::Usage
+    }
+}
+
 /// What is made by the three numbers, where they are in range.
 fn make_from<'a>(matches: &ArgMatches<'a>) -> Request<'a>
     ensures { asked_for result ≡ asked_in name.Make (rows_of (found_of matches.now)) }
@@ -225,6 +250,7 @@ fn asked_in<'a>(name: CommandName, matches: &ArgMatches<'a>) -> Request<'a>
         CommandName::Dispatch => Request::Reads(Reader::Dispatch, followed(matches)),
         CommandName::Picture => Request::Reads(Reader::Picture, planned(matches)),
         CommandName::Report => Request::Reads(Reader::Report, planned(matches)),
+        CommandName::Moves => moves_in(matches),
     }
 }
 

@@ -1,0 +1,2 @@
+pub mod MovesLemmas
+pub mod StoreLemmas
