@@ -358,6 +358,9 @@ def main():
     args = parser.parse_args()
     program, inputs = program_of(args), example("first")
     whole = planned(program, inputs)
+    told("plan of the first example, which nothing stops", set(whole) == {"t", "p"}, f"leaves {sorted(whole)}")
+    if wrong:
+        return 1
     links(program, inputs, whole)
     devices(program, inputs, whole)
     names_of_the_system(program, inputs, whole)

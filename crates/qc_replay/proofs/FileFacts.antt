@@ -17,7 +17,8 @@ use Rattle.qc_tree.specs.declared.fault.TreeFault.{TreeFault}
 use Rattle.qc_tree.specs.declared.fault.TreeKind.{TreeKind}
 use Rattle.qc_tree.specs.declared.fault.TreeKind.TheVariants as kind
 use Rattle.qc_replay.specs.File.{IsFaulty, texts}
-use Rattle.qc_replay.specs.Walk.{Coming, Reading, at, at_rest, at_text, most_bytes, next_of, numbered, replayed, texts_from}
+use Rattle.qc_tree.specs.Lines.{most_bytes}
+use Rattle.qc_replay.specs.Walk.{Coming, Reading, at, at_rest, at_text, next_of, numbered, replayed, texts_from}
 
 abbrev pub fault_at : ℕ → TreeKind → TreeFault
 fault_at n why = record { line = n; kind = why }

@@ -19,13 +19,13 @@ use Rattle.qc_model.proofs.NodeLemmas.{conflict_inside}
 use Rattle.qc_close.proofs.PackBounds.{packed_listed, some_packed}
 use Rattle.qc_tree.specs.declared.line.Line.{Line}
 use Rattle.qc_tree.specs.declared.line.Line.TheVariants as line
-use Rattle.qc_tree.specs.Lines.{AreTasks, IsLine, IsTask, IsValue, fields, line_list, line_text}
+use Rattle.qc_tree.specs.Lines.{AreTasks, IsLine, IsTask, IsValue, fields, line_list, line_text, most_bytes}
 use Rattle.qc_tree.specs.Trees.{Holds, MayOrder, Sign, branches, children, in_file, leaf, sign_text, sign_value, whole_line}
 use Rattle.qc_tree.specs.Trees as trees
 use Rattle.qc_tree.proofs.OrderLemmas.{may_conflict}
 use Rattle.qc_tree.specs.declared.fault.TreeKind.{TreeKind}
 use Rattle.qc_tree.specs.declared.fault.TreeKind.TheVariants as kind
-use Rattle.qc_replay.specs.Walk.{Coming, Reading, at_node, branched_to, came, ended_by, from_file, is_number, is_settled, may_order, most_bytes, no_order, node, on_pair, on_task}
+use Rattle.qc_replay.specs.Walk.{Coming, Reading, at_node, branched_to, came, ended_by, from_file, is_number, is_settled, may_order, no_order, node, on_pair, on_task}
 use Rattle.qc_replay.proofs.LeafBounds.{leaf_few}
 use Rattle.qc_replay.proofs.NodeFacts.{unsettled_false}
 use Rattle.qc_replay.proofs.OrderFacts.{may_of, test_of}

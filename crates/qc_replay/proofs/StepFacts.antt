@@ -7,7 +7,7 @@ use Rattle.qc_num.specs.Reading.{◌>>=◌}
 use Rattle.qc_model.specs.Instance.{InstanceView}
 use Rattle.qc_tree.specs.declared.line.Line.{Line}
 use Rattle.qc_tree.specs.LineIn.{Listed}
-use Rattle.qc_tree.specs.Lines.{line_text}
+use Rattle.qc_tree.specs.Lines.{line_text, most_bytes}
 use Rattle.qc_tree.specs.Trees.{whole_line}
 use Rattle.qc_tree.proofs.LineInLemmas.{line_in_of, split_line}
 use Rattle.qc_tree.specs.declared.fault.TreeFault.{TreeFault}
@@ -15,7 +15,7 @@ use Rattle.qc_tree.specs.declared.fault.TreeKind.{TreeKind}
 use Rattle.qc_replay.specs.File.{Fails, IsFaulty, IsNext, Leads, texts}
 use Rattle.qc_replay.specs.Read.{lines_text, with_line, with_lines}
 use Rattle.qc_replay.specs.Stages.{is_over, none_due}
-use Rattle.qc_replay.specs.Walk.{Coming, Reading, most_bytes, numbered, texts_from}
+use Rattle.qc_replay.specs.Walk.{Coming, Reading, numbered, texts_from}
 use Rattle.qc_replay.proofs.FileFacts.{parts}
 
 -- ---- one line

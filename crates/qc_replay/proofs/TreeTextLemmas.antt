@@ -17,14 +17,14 @@ use Rattle.qc_model.proofs.MirrorLemmas.{seen_valid}
 use Rattle.qc_model.proofs.NodeLemmas.{conflict_turned, unsettled_unordered}
 use Rattle.qc_tree.specs.declared.line.Line.{Line}
 use Rattle.qc_tree.specs.declared.line.Line.TheVariants as line
-use Rattle.qc_tree.specs.Lines.{IsLine, IsValue, bound_field, line_list, line_text}
+use Rattle.qc_tree.specs.Lines.{IsLine, IsValue, bound_field, line_list, line_text, most_bytes}
 use Rattle.qc_tree.specs.Trees.{Holds, IsPart, IsSecond, IsTree, Leads, Node, Sign, Tree, branchings, children, leaf, lines_by, node_value, part_text, part_value, sign_text, sign_value, tree_branchings, tree_text, tree_value, whole_line}
 use Rattle.qc_tree.specs.Trees as trees
 use Rattle.qc_tree.proofs.LineInLemmas.{line_in_of, split_line}
 use Rattle.qc_tree.proofs.OrderLemmas.{may_conflict}
 use Rattle.qc_tree.specs.declared.fault.TreeKind.TheVariants as kind
 use Rattle.qc_replay.specs.declared.fault.Replayed.{Replayed}
-use Rattle.qc_replay.specs.Walk.{Coming, Reading, at_due, at_text, down, end, first_lines, is_known, most_bytes, next_of, node, numbered, start, texts_from, tree_in, up}
+use Rattle.qc_replay.specs.Walk.{Coming, Reading, at_due, at_text, down, end, first_lines, is_known, next_of, node, numbered, start, texts_from, tree_in, up}
 use Rattle.qc_replay.specs.Walk as walk
 use Rattle.qc_replay.proofs.LeafBounds.{leaf_few}
 use Rattle.qc_replay.proofs.ReadLemmas.{branchings_more, children_due, one_text, reading, texts_after}

@@ -5,7 +5,7 @@ use Rattle.qc_io.specs.Outside.{IsMissing, ReadCause, View}
 use Rattle.qc_io.specs.Reads.{Reads}
 use Rattle.qc_model.specs.Instance.{InstanceView}
 use Rattle.qc_tree.specs.LineIn.{Listed}
-use Rattle.qc_tree.specs.Lines.{IsTextOf, line_text}
+use Rattle.qc_tree.specs.Lines.{IsTextOf, line_text, most_bytes}
 use Rattle.qc_tree.specs.Trees.{whole_line}
 use Rattle.qc_tree.specs.declared.line.Line.{Line}
 use Rattle.qc_replay.specs.declared.fault.ReplayError.{ReplayError}
@@ -14,7 +14,7 @@ use Rattle.qc_replay.specs.declared.fault.Replayed.{Replayed}
 use Rattle.qc_tree.specs.declared.fault.TreeFault.{TreeFault}
 use Rattle.qc_tree.specs.declared.fault.TreeKind.{TreeKind}
 use Rattle.qc_replay.specs.Read.{lines_text, with_lines}
-use Rattle.qc_replay.specs.Walk.{Coming, Reading, most_bytes, replayed, start, texts_from}
+use Rattle.qc_replay.specs.Walk.{Coming, Reading, replayed, start, texts_from}
 
 -- the texts between the line feeds of a text
 abbrev pub texts : List ℕ → List (List ℕ)

@@ -12,6 +12,7 @@ use Rattle.qc_model.specs.declared.turn.Turn.TheVariants as turn
 use Rattle.qc_tree.specs.declared.line.Line.{Line}
 use Rattle.qc_tree.specs.declared.line.Line.TheVariants as line
 use Rattle.qc_tree.specs.LineIn.{line_in}
+use Rattle.qc_tree.specs.Lines.{most_bytes}
 use Rattle.qc_replay.specs.declared.fault.Replayed.{Replayed}
 use Rattle.qc_tree.specs.declared.fault.TreeFault.{TreeFault}
 use Rattle.qc_tree.specs.declared.fault.TreeKind.{TreeKind}
@@ -149,10 +150,6 @@ abbrev pub at : InstanceView → Reading → Coming → Line → List ℕ → Re
 at inst r c line list = do
   _ ← require (is_known inst.turn line) kind.Spelling
   at_due inst r c line list
-
--- the greatest length of a line with its line feed
-abbrev pub most_bytes : ℕ
-most_bytes = 1200
 
 -- what must come next; after the last line nothing may
 abbrev pub next_of : List Coming → Result Coming TreeKind

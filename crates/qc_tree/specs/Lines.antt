@@ -7,6 +7,10 @@ use Rattle.qc_tree.specs.declared.line.Line.{Line}
 use Rattle.qc_tree.specs.declared.line.Line.TheVariants.{Title, FreeTitle, Up, Down, Assign, Order, Chain, Ring, Reach, Work, Clash, End}
 use Rattle.qc_tree.specs.declared.line.BadLine.{BadLine}
 
+-- the most bytes of a line with its line feed
+abbrev pub most_bytes : ℕ
+most_bytes = 1200
+
 -- numbers in plain decimal, each after one space
 abbrev pub fields : List ℕ → List ℕ
 fields = flat_map (λ n. 32 ∷ decimal n)

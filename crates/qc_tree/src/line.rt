@@ -1,6 +1,7 @@
 //! Lines of a tree.
 ghost use Rattle.std.specs.Prelude.{◌≡◌};
 ghost use Rattle.qc_model.specs.Numbers.{most_branchings};
+ghost use Rattle.qc_tree.specs.Lines.{most_bytes};
 
 use qc_num::Bound;
 
@@ -47,7 +48,8 @@ pub enum Line {
 #[derive(Clone, Copy, Debug, PartialEq, Eq)]
 pub struct BadLine;
 
-/// The limit is the number of the definitions. Nobody calls it; a wrong limit fails its proof.
-fn limit_is_the_definition()
-    ensures { MOST_BRANCHINGS ≡ most_branchings }
+/// The limits are the numbers of the definitions. Nobody calls it; a wrong limit fails its proof.
+fn limits_are_the_definitions()
+    ensures bytes { MOST_BYTES ≡ most_bytes }
+    ensures branchings { MOST_BRANCHINGS ≡ most_branchings }
 {}
