@@ -1,0 +1,6 @@
+pub mod NumberLemmas
+pub mod BayLemmas
+pub mod BegunLemmas
+pub mod StandLemmas
+pub mod PairLemmas
+pub mod SoundLemmas

@@ -1,0 +1,4 @@
+pub mod Progress
+pub mod Stands
+pub mod Rest
+pub mod Joined

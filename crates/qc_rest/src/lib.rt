@@ -1,0 +1,6 @@
+//! Replanning in the middle of work.
+#![tactic(auto)]
+
+mod stand;
+
+pub use stand::Stand;
