@@ -4,3 +4,5 @@ pub mod BegunLemmas
 pub mod StandLemmas
 pub mod PairLemmas
 pub mod SoundLemmas
+pub mod LimitLemmas
+pub mod PlaceLemmas

@@ -24,7 +24,7 @@ use Rattle.qc_rest.specs.Stands.{IsStand, stand_of}
 use Rattle.qc_rest.proofs.BayLemmas.{distance_over, distance_same, travel_over, travel_swapped}
 use Rattle.qc_rest.proofs.BegunLemmas.{begun_before, begun_or_waits, clear, early, freed, lasts, not_left, over_before, runs_or_over}
 use Rattle.qc_rest.proofs.NumberLemmas.{counts_differ}
-use Rattle.qc_rest.proofs.StandLemmas.{bay_left, crane_low, done_for, from_other, from_own, gap_of_one, number_low, ticks_left}
+use Rattle.qc_rest.proofs.StandLemmas.{crane_low, done_for, from_other, from_own}
 
 module _ (c : Course) (over : ℕ → ℕ) (stands : List Stand) (rest : InstanceView) (new : List Slot) (valid : Valid c.inst)
     (plan : Feasible c.inst c.plan) (keeps : Keeps c) (known : AreOver c over) (is : IsRest c over stands rest)

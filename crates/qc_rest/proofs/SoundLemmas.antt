@@ -2,7 +2,6 @@
 use Rattle.std.proofs.Common.{◌≡◌, ◌≢◌, ℕ, ◌+◌, ◌*◌, ◌<◌, ◌≤◌, ◌⊎◌, ℤ, ◌≤ℤ◌, inl, inr, List, length, slice_index_or, true, false, refl, sym, ap, subst, ◌∙◌, arith}
 use Rattle.std.proofs.lemmas.Bool.{ne_eqb, cond-false}
 use Rattle.qc_dispatch.specs.Course.{Course, stage_of}
-use Rattle.qc_dispatch.specs.Order.{gap}
 use Rattle.qc_dispatch.specs.Promises.{Keeps}
 use Rattle.qc_dispatch.specs.Worked.{begun_at, with_tasks}
 use Rattle.qc_model.specs.declared.schedule.Slot.{Slot}
@@ -21,15 +20,7 @@ use Rattle.qc_rest.specs.Rest.{IsRest}
 use Rattle.qc_rest.proofs.BayLemmas.{distance_same, travel_swapped}
 use Rattle.qc_rest.proofs.BegunLemmas.{begun_before, begun_or_waits, clear, freed, over_before}
 use Rattle.qc_rest.proofs.PairLemmas.{berth_kept, by, from_berth, held_back, numbers_differ, one_crane, starts, two_cranes}
-use Rattle.qc_rest.proofs.StandLemmas.{bay_left, crane_low, gap_of_one, number_low, ticks_left}
-
-gap_of_two : (inst : InstanceView) (plan : List Slot) (i j : ℕ) → crane_of plan i ≢ crane_of plan j
-    → gap inst plan i j ≡ slot_distance inst plan i j
-gap_of_two inst plan i j differ = rw (ne_eqb (crane_of plan i) (crane_of plan j) differ) refl
-
-distance_at : (inst : InstanceView) (v w u z : ℕ) (x y : ℤ) → v ≡ u → w ≡ z → distance inst v x w y ≡ distance inst u x z y
-distance_at inst v w u z x y first second =
-    ap (λ (k : ℕ). distance inst k x w y) first ∙ ap (λ (k : ℕ). distance inst u x k y) second
+use Rattle.qc_rest.proofs.StandLemmas.{bay_left, crane_low, distance_at, gap_of_one, gap_of_two, number_low, ticks_left}
 
 module _ (c : Course) (over : ℕ → ℕ) (stands : List Stand) (rest : InstanceView) (new : List Slot) (tasks : List Task)
     (sched : List Slot) (valid : Valid c.inst) (plan : Feasible c.inst c.plan) (keeps : Keeps c) (known : AreOver c over)
@@ -58,8 +49,8 @@ module _ (c : Course) (over : ℕ → ℕ) (stands : List Stand) (rest : Instanc
 
   end_left : (j : ℕ) → IsLeft c j → end_of real sched j ≡ c.clock + end_of rest new (number_of c j)
   end_left j waits =
-      let as = w.planned j waits in
-      omega (arith, as.start, as.ticks, ticks_left c over stands rest new keeps is feasible j waits)
+      let own = w.planned j waits in
+      omega (arith, own.start, own.ticks, ticks_left c over stands rest new keeps is feasible j waits)
 
   released : (j : ℕ) → IsLeft c j → release_of rest (number_of c j) ≤ start_of new (number_of c j)
   released j waits = (feasible.ready (number_of c j) (low_at j waits)).0
@@ -118,16 +109,16 @@ module _ (c : Course) (over : ℕ → ℕ) (stands : List Stand) (rest : Instanc
 
     ready_begun : HasBegun c j → ReadyIsKept
     ready_begun some =
-        let as = w.begun j low some in
+        let own = w.begun j low some in
         let free = freed c over keeps known j some in
-        rw as.crane (omega (arith, as.start, free), omega (arith, as.start, free))
+        rw own.crane (omega (arith, own.start, free), omega (arith, own.start, free))
 
     ready_left : IsLeft c j → ReadyIsKept
     ready_left waits =
-        let as = w.planned j waits in
-        rw as.crane (
-        omega (arith, as.start, (is.tasks j waits).released, released j waits),
-        omega (arith, as.start, from_berth c over stands rest new valid plan keeps known is feasible j waits))
+        let own = w.planned j waits in
+        rw own.crane (
+        omega (arith, own.start, (is.tasks j waits).released, released j waits),
+        omega (arith, own.start, from_berth c over stands rest new valid plan keeps known is feasible j waits))
 
     ready_kept : KeepsReady real sched j
     ready_kept = rw (bay_same j low, release_same j low) (by_task j low ready_begun ready_left)

@@ -1,6 +1,6 @@
 -- From where a crane stands: what it has begun is over in time for it, and what is left waits for it.
 use Rattle.std.proofs.Common.{◌≡◌, ◌≢◌, ℕ, ◌+◌, ◌*◌, ◌<◌, ◌≤◌, ◌⊎◌, ℤ, inl, inr, List, length, true, refl, sym, ap, subst, ◌∙◌, arith}
-use Rattle.std.proofs.lemmas.Bool.{cases_eq, cases_lt, eq-eqb}
+use Rattle.std.proofs.lemmas.Bool.{cases_eq, cases_lt, eq-eqb, ne_eqb}
 use Rattle.qc_dispatch.specs.Course.{Course, is_waiting, left, stage_of}
 use Rattle.qc_dispatch.specs.Order.{gap}
 use Rattle.qc_dispatch.specs.Promises.{Keeps}
@@ -9,7 +9,7 @@ use Rattle.qc_model.specs.declared.schedule.Slot.{Slot}
 use Rattle.qc_model.specs.declared.crane.Crane.{Crane}
 use Rattle.qc_model.specs.declared.task.Task.{Task}
 use Rattle.qc_model.specs.Instance.{InstanceView, bay_of, crane, task, ticks_of}
-use Rattle.qc_model.specs.Rules.{Feasible, crane_of, start_of}
+use Rattle.qc_model.specs.Rules.{Feasible, crane_of, slot_distance, start_of}
 use Rattle.qc_model.specs.Bays.{bays_between}
 use Rattle.qc_model.specs.Ticks.{arrival, berth_distance, distance, travel_between}
 use Rattle.qc_model.proofs.Bays.{bays}
@@ -28,11 +28,21 @@ IsDoneFor inst now over x stand =
     ⊎ ((over + travel_between inst x stand.bay ≤ now) × (over + travel_between inst x stand.bay ≤ stand.until))
 
 no_way : (inst : InstanceView) (x y : ℤ) → x ≡ y → travel_between inst x y ≡ 0
-no_way inst x y e = ap (λ (z : ℤ). travel_between inst z y) e ∙ omega (arith, bays)
+no_way inst x y e =
+    let none : bays_between y y ≡ 0 = omega (arith, bays) in
+    ap (λ (z : ℤ). travel_between inst z y) e ∙ ap (λ (n : ℕ). inst.travel * n) none ∙ omega arith
 
-gap_of_one : (inst : InstanceView) (plan : List Slot) (i j : ℕ) → crane_of plan i ≡ crane_of plan j
+pub gap_of_one : (inst : InstanceView) (plan : List Slot) (i j : ℕ) → crane_of plan i ≡ crane_of plan j
     → gap inst plan i j ≡ travel_between inst (bay_of inst i) (bay_of inst j)
 gap_of_one inst plan i j same = rw (eq-eqb (crane_of plan i) (crane_of plan j) same) refl
+
+pub gap_of_two : (inst : InstanceView) (plan : List Slot) (i j : ℕ) → crane_of plan i ≢ crane_of plan j
+    → gap inst plan i j ≡ slot_distance inst plan i j
+gap_of_two inst plan i j differ = rw (ne_eqb (crane_of plan i) (crane_of plan j) differ) refl
+
+pub distance_at : (inst : InstanceView) (v w u z : ℕ) (x y : ℤ) → v ≡ u → w ≡ z → distance inst v x w y ≡ distance inst u x z y
+distance_at inst v w u z x y first second =
+    ap (λ (k : ℕ). distance inst k x w y) first ∙ ap (λ (k : ℕ). distance inst u x k y) second
 
 module _ (c : Course) (over : ℕ → ℕ) (keeps : Keeps c) (known : AreOver c over) where
   by_last : (v i m : ℕ) → i < length c.inst.tasks → HasBegun c i → crane_of c.plan i ≡ v → IsLastOf c over v m

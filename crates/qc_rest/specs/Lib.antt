@@ -2,3 +2,5 @@ pub mod Progress
 pub mod Stands
 pub mod Rest
 pub mod Joined
+pub mod GoneOn
+pub mod Places
