@@ -6,3 +6,4 @@ pub mod PairLemmas
 pub mod SoundLemmas
 pub mod LimitLemmas
 pub mod PlaceLemmas
+pub mod OldLemmas

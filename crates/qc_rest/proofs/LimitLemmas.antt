@@ -15,7 +15,7 @@ use Rattle.qc_dispatch.proofs.OrderLemmas.{one_leads}
 use Rattle.qc_model.specs.declared.schedule.Slot.{Slot}
 use Rattle.qc_model.specs.Bays.{bays_between, bays_up}
 use Rattle.qc_model.specs.Instance.{InstanceView, HasValidCranes, Valid, bay_of, crane, ticks_of}
-use Rattle.qc_model.specs.Nodes.{berth_wait}
+use Rattle.qc_model.specs.Nodes.{berth_wait, free}
 use Rattle.qc_model.specs.Rules.{Feasible, crane_of, slot_distance}
 use Rattle.qc_model.specs.Ticks.{arrival, berth_clear, berth_distance, distance, travel_between}
 use Rattle.qc_model.proofs.Bays.{bays}
@@ -118,15 +118,19 @@ berths_apart inst cranes v (suc n) high =
 
 free_arrival : (inst : InstanceView) (plan : List Slot) (j v : ℕ) (s : ℕ) → free_of inst plan j ≤ s → crane_of plan j ≡ v
     → arrival inst v (bay_of inst j) ≤ s
-free_arrival inst plan j v s free by = subst (λ (k : ℕ). arrival inst k (bay_of inst j) ≤ s) by (omega (arith, free))
+free_arrival inst plan j v s is_free by = subst (λ (k : ℕ). arrival inst k (bay_of inst j) ≤ s) by (omega (arith, is_free))
+
+pub free_clear : (inst : InstanceView) (j k v s : ℕ) → free inst j k ≤ s → v < length inst.cranes
+    → 0 < berth_distance inst v k (bay_of inst j) → berth_clear inst v k (bay_of inst j) ≤ s
+free_clear inst j k v s is_free high away =
+    let waits = le_greatest (berth_wait inst j k) v 0 (length inst.cranes) (omega arith) (omega (arith, high)) in
+    let far = ne_eqb (berth_distance inst v k (bay_of inst j)) 0 (λ e. absurd (omega (arith, e, away))) in
+    let is = cond-false _ 0 (berth_clear inst v k (bay_of inst j)) far in
+    omega (arith, is_free, waits, is)
 
 free_berth : (inst : InstanceView) (plan : List Slot) (j v : ℕ) (s : ℕ) → free_of inst plan j ≤ s → v < length inst.cranes
     → 0 < berth_distance inst v (crane_of plan j) (bay_of inst j) → berth_clear inst v (crane_of plan j) (bay_of inst j) ≤ s
-free_berth inst plan j v s free high away =
-    let waits = le_greatest (berth_wait inst j (crane_of plan j)) v 0 (length inst.cranes) (omega arith) (omega (arith, high)) in
-    let far = ne_eqb (berth_distance inst v (crane_of plan j) (bay_of inst j)) 0 (λ e. absurd (omega (arith, e, away))) in
-    let is = cond-false _ 0 (berth_clear inst v (crane_of plan j) (bay_of inst j)) far in
-    omega (arith, free, waits, is)
+free_berth inst plan j v s is_free high away = free_clear inst j (crane_of plan j) v s is_free high away
 
 -- ---- options
 
@@ -152,13 +156,13 @@ module _ (o : Outlook) (valid : Valid o.course.inst) (plan : Feasible o.course.i
   ends = end_with o.course o.over o.goes
 
   -- a task that is left never leads one that has begun
-  begun_first : (i j : ℕ) → i < length c.inst.tasks → HasBegun c i → IsLeft c j → AreTied c.inst c.plan i j → i ≢ j → Leads c.inst c.plan i j
+  pub begun_first : (i j : ℕ) → i < length c.inst.tasks → HasBegun c i → IsLeft c j → AreTied c.inst c.plan i j → i ≢ j → Leads c.inst c.plan i j
   begun_first i j low begun waits tied differ = elim (one_leads c.inst c.plan valid plan i j low waits.task differ tied) [
     | inl leads ↦ leads
     | inr leads ↦ absurd (no_end (stage_of c j) (start_at c i) (gap c.inst c.plan j i) waits.waits begun (keeps.order j i leads))
   ]
 
-  goes_after : (i j : ℕ) → IsLeft c j → Leads c.inst c.plan i j → ends i + gap c.inst c.plan i j ≤ o.goes j
+  pub goes_after : (i j : ℕ) → IsLeft c j → Leads c.inst c.plan i j → ends i + gap c.inst c.plan i j ≤ o.goes j
   goes_after i j waits leads = ((gone.each_one j waits (o.goes j)).0 (omega arith)).clear i leads
 
   pub goes_now : (j : ℕ) → IsLeft c j → c.clock ≤ o.goes j
@@ -167,10 +171,10 @@ module _ (o : Outlook) (valid : Valid o.course.inst) (plan : Feasible o.course.i
   pub goes_free : (j : ℕ) → IsLeft c j → free_of c.inst c.plan j ≤ o.goes j
   goes_free j waits = ((gone.each_one j waits (o.goes j)).0 (omega arith)).free
 
-  end_begun : (i : ℕ) → HasBegun c i → ends i ≡ o.over i
+  pub end_begun : (i : ℕ) → HasBegun c i → ends i ≡ o.over i
   end_begun i begun = cond-false (is_waiting (stage_of c i)) _ _ (begun_not_waiting (stage_of c i) begun)
 
-  end_left : (i : ℕ) → IsLeft c i → ends i ≡ o.goes i + ticks_of c.inst i
+  pub end_left : (i : ℕ) → IsLeft c i → ends i ≡ o.goes i + ticks_of c.inst i
   end_left i waits = cond-true (is_waiting (stage_of c i)) _ _ (ap is_waiting waits.waits)
 
   not_both : (i j : ℕ) → HasBegun c i → IsLeft c j → i ≢ j
@@ -194,7 +198,7 @@ module _ (o : Outlook) (valid : Valid o.course.inst) (plan : Feasible o.course.i
   -- ---- a stand and a task that is left
 
   -- the task's own crane comes from where it stands
-  own_goes : (v j : ℕ) (s : Stand) → IsLeft c j → crane_of c.plan j ≡ v → IsStand c o.over v s
+  pub own_goes : (v j : ℕ) (s : Stand) → IsLeft c j → crane_of c.plan j ≡ v → IsStand c o.over v s
       → s.until + travel_between c.inst s.bay (bay_of c.inst j) ≤ o.goes j
   own_goes v j s waits by (inl idle) =
       let there : s.until + travel_between c.inst s.bay (bay_of c.inst j) ≡ arrival c.inst v (bay_of c.inst j) =
@@ -208,7 +212,7 @@ module _ (o : Outlook) (valid : Valid o.course.inst) (plan : Feasible o.course.i
       omega (arith, there, gap_of_one c.inst c.plan i j one, after_begun i j last.1.task last.1.begun waits (inr (inr (inl one))))
 
   -- another has given way
-  other_goes : (v j : ℕ) (s : Stand) → IsLeft c j → v < length c.inst.cranes → v ≢ crane_of c.plan j → IsStand c o.over v s
+  pub other_goes : (v j : ℕ) (s : Stand) → IsLeft c j → v < length c.inst.cranes → v ≢ crane_of c.plan j → IsStand c o.over v s
       → 0 < distance c.inst v s.bay (crane_of c.plan j) (bay_of c.inst j)
       → s.until + distance c.inst v s.bay (crane_of c.plan j) (bay_of c.inst j) ≤ o.goes j
   other_goes v j s waits high differ (inl idle) near =
@@ -360,10 +364,10 @@ module _ (o : Outlook) (valid : Valid o.course.inst) (plan : Feasible o.course.i
           let is : need (crane c.inst v).bay (bay_of c.inst m) ≡ berth_distance c.inst v (crane_of c.plan m) (bay_of c.inst m) =
           rise_apart c.inst v (crane c.inst v).bay w (bay_of c.inst m) less
           ∙ distance_at c.inst v w v (crane_of c.plan m) (crane c.inst v).bay (bay_of c.inst m) refl (sym last.by) in
-          let free = freed c o.over keeps known m last.begun in
+          let is_free = freed c o.over keeps known m last.begun in
           let soon = early c o.over keeps known m last.begun in
           elim (cases_lt 0 (berth_distance c.inst v (crane_of c.plan m) (bay_of c.inst m))) [
-            | inl near ↦ inl (omega (arith, is, soon, free_berth c.inst c.plan m v (begun_at c m) free low near))
+            | inl near ↦ inl (omega (arith, is, soon, free_berth c.inst c.plan m v (begun_at c m) is_free low near))
             | inr none ↦ inl (omega (arith, is, none))
           ]
 
@@ -374,10 +378,10 @@ module _ (o : Outlook) (valid : Valid o.course.inst) (plan : Feasible o.course.i
           rise_apart c.inst v (bay_of c.inst i) w (crane c.inst w).bay less
           ∙ distance_swapped c.inst v (bay_of c.inst i) w (crane c.inst w).bay
           ∙ distance_at c.inst w v w (crane_of c.plan i) (crane c.inst w).bay (bay_of c.inst i) refl (sym last.by) in
-          let free = freed c o.over keeps known i last.begun in
+          let is_free = freed c o.over keeps known i last.begun in
           let soon = early c o.over keeps known i last.begun in
           elim (cases_lt 0 (berth_distance c.inst w (crane_of c.plan i) (bay_of c.inst i))) [
-            | inl near ↦ inr (omega (arith, is, soon, free_berth c.inst c.plan i w (begun_at c i) free high near))
+            | inl near ↦ inr (omega (arith, is, soon, free_berth c.inst c.plan i w (begun_at c i) is_free high near))
             | inr none ↦ inl (omega (arith, is, none))
           ]
 

@@ -4,3 +4,4 @@ pub mod Rest
 pub mod Joined
 pub mod GoneOn
 pub mod Places
+pub mod OldOrder

@@ -1,5 +1,5 @@
 -- public: instances that have what is left of the work.
-use Rattle.std.specs.Prelude.{◌≡◌, ℕ, ◌+◌, ◌<◌, ◌≤◌, ◌⊎◌, List, length}
+use Rattle.std.specs.Prelude.{◌≡◌, ℕ, ◌+◌, ◌-◌, ◌<◌, ◌≤◌, ◌⊎◌, ◌↔◌, ℤ, List, length}
 use Rattle.qc_dispatch.specs.declared.stage.Stage.TheVariants.{Running}
 use Rattle.qc_dispatch.specs.Course.{Course, left, stage_of}
 use Rattle.qc_dispatch.specs.Order.{ArePaired}
@@ -44,3 +44,14 @@ pub record IsRest (c : Course) (over : ℕ → ℕ) (stands : List Stand) (rest 
       → IsBefore rest (number_of c i) (number_of c j)
   pub apart : (i j : ℕ) → IsLeft c i → IsLeft c j → IsApart c.inst i j
       → IsApart rest (number_of c i) (number_of c j)
+
+-- the same with nothing asked beyond that: the cranes at these places, ready as soon as they are done where they stand,
+-- and no task held back longer than it must be
+pub record IsExactRest (c : Course) (over : ℕ → ℕ) (stands : List Stand) (places : ℕ → ℤ) (rest : InstanceView) : Type 0 where
+  pub is : IsRest c over stands rest
+  pub releases : (j : ℕ) → IsLeft c j → (tick : ℕ) → release_of c.inst j ≤ c.clock + tick
+      → ((i : ℕ) → HoldsBack c i j → over i ≤ c.clock + tick) → release_of rest (number_of c j) ≤ tick
+  pub places : (k : ℕ) → k < length c.inst.cranes → (crane rest k).bay ≡ places k
+  pub ready : (k : ℕ) → k < length c.inst.cranes → (crane rest k).ready ≡ (stand_of stands k).until - c.clock
+  pub only_before : (i j : ℕ) → IsLeft c i → IsLeft c j → IsBefore rest (number_of c i) (number_of c j) → IsBefore c.inst i j
+  pub only_apart : (i j : ℕ) → IsLeft c i → IsLeft c j → IsApart rest (number_of c i) (number_of c j) → IsApart c.inst i j
