@@ -7,3 +7,4 @@ pub mod SoundLemmas
 pub mod LimitLemmas
 pub mod PlaceLemmas
 pub mod OldLemmas
+pub mod LateLemmas

@@ -86,18 +86,33 @@ module _ (o : Outlook) (valid : Valid o.course.inst) (plan : Feasible o.course.i
     next = λ v next. next_top v k next low (before v next);
   })
 
-  all_below : (k : ℕ) → k < length c.inst.cranes → places k ≤ℤ tops k
+  pub all_below : (k : ℕ) → k < length c.inst.cranes → places k ≤ℤ tops k
   all_below zero low = below_top zero low (λ v next. absurd (omega arith))
   all_below (suc k) low = below_top (suc k) low (λ v next.
       let e : k ≡ v = omega arith in
       subst (λ (u : ℕ). places u ≤ℤ tops u) e (all_below k (omega arith)))
 
-  high_enough : (k : ℕ) → k < length c.inst.cranes → IsHighEnough o tops places k (places k)
+  pub high_enough : (k : ℕ) → k < length c.inst.cranes → IsHighEnough o tops places k (places k)
   high_enough k low = (are.each_one k low (places k)).0 (at_itself (places k))
 
   -- neighbours are the gap apart
   pub in_order : (k : ℕ) → k + 1 < length c.inst.cranes → (places k +ℤ pos c.inst.gap) ≤ℤ places (k + 1)
   in_order k low = (high_enough (k + 1) low).next k refl
+
+  one_more : (g n : ℕ) (x y z : ℤ) → (x +ℤ pos (g * n)) ≤ℤ y → (y +ℤ pos g) ≤ℤ z → (x +ℤ pos (g * suc n)) ≤ℤ z
+  one_more g n x y z one next = omega (arith, bays)
+
+  -- and any two as many gaps as there are cranes between
+  pub places_apart : (v n : ℕ) → v + n < length c.inst.cranes → (places v +ℤ pos (c.inst.gap * n)) ≤ℤ places (v + n)
+  places_apart v zero high =
+      let e : v ≡ v + 0 = omega arith in
+      subst (λ (u : ℕ). (places v +ℤ pos (c.inst.gap * 0)) ≤ℤ places u) e (omega (arith, bays))
+  places_apart v (suc n) high =
+      let before = places_apart v n (omega arith) in
+      let step = in_order (v + n) (omega arith) in
+      let e : v + n + 1 ≡ v + suc n = omega arith in
+      subst (λ (u : ℕ). (places v +ℤ pos (c.inst.gap * suc n)) ≤ℤ places u) e
+      (one_more c.inst.gap n (places v) (places (v + n)) (places (v + n + 1)) before step)
 
   -- ---- where a crane can be
 
@@ -113,12 +128,12 @@ module _ (o : Outlook) (valid : Valid o.course.inst) (plan : Feasible o.course.i
       let e : g * (k - k) ≡ 0 = ap (λ (n : ℕ). g * n) none ∙ omega arith in
       omega (arith, bays, e)
 
-  no_higher : (k : ℕ) (low : k < length c.inst.cranes) → places k ≤ℤ ((stand_of o.stands k).bay +ℤ pos (far_of o k))
+  pub no_higher : (k : ℕ) (low : k < length c.inst.cranes) → places k ≤ℤ ((stand_of o.stands k).bay +ℤ pos (far_of o k))
   no_higher k low =
       let rooms = (are.highest k low (places k)).0 (all_below k low) k (omega arith) low in
       self_gap c.inst.gap k (places k) _ rooms.stand
 
-  in_reach : (k : ℕ) (low : k < length c.inst.cranes) → bays_between (stand_of o.stands k).bay (places k) ≤ far_of o k
+  pub in_reach : (k : ℕ) (low : k < length c.inst.cranes) → bays_between (stand_of o.stands k).bay (places k) ≤ far_of o k
   in_reach k low = near_enough (places k) (stand_of o.stands k).bay (far_of o k) (no_lower k low) (no_higher k low)
 
   same_place : (x y : ℤ) (n : ℕ) → bays_between x y ≤ n → n ≡ 0 → y ≡ x
@@ -130,13 +145,25 @@ module _ (o : Outlook) (valid : Valid o.course.inst) (plan : Feasible o.course.i
       let part : t * (a / t) ≤ a = omega arith in
       omega (arith, more, part)
 
+  -- a crane that must stay is where it stands
+  pub stays : (k : ℕ) → k < length c.inst.cranes → c.clock < (stand_of o.stands k).until → places k ≡ (stand_of o.stands k).bay
+  stays k low held =
+      let spare : c.clock - (stand_of o.stands k).until ≡ 0 = omega arith in
+      let none : far_of o k ≡ 0 = ap (λ (a : ℕ). a / c.inst.travel) spare ∙ zero-div c.inst.travel in
+      same_place (stand_of o.stands k).bay (places k) (far_of o k) (in_reach k low) none
+
+  -- one that needn't is near enough to its tasks
+  pub near_task : (k j : ℕ) → k < length c.inst.cranes → IsNextOf o k j → bays_between (places k) (bay_of c.inst j) ≤ off_of o j
+  near_task k j low next =
+      let above = (high_enough k low).tasks j next in
+      let rooms = (are.highest k low (places k)).0 (all_below k low) k (omega arith) low in
+      let below = self_gap c.inst.gap k (places k) _ (rooms.tasks j next) in
+      omega (arith, bays, above, below)
+
   -- each crane can be at its place by now
   pub can_be : (k : ℕ) → k < length c.inst.cranes → CanBeAt c.inst c.clock (stand_of o.stands k) (places k)
   can_be k low = elim (cases_lt c.clock (stand_of o.stands k).until) [
-    | inl held ↦
-        let spare : c.clock - (stand_of o.stands k).until ≡ 0 = omega arith in
-        let none : far_of o k ≡ 0 = ap (λ (a : ℕ). a / c.inst.travel) spare ∙ zero-div c.inst.travel in
-        inl (held, same_place (stand_of o.stands k).bay (places k) (far_of o k) (in_reach k low) none)
+    | inl held ↦ inl (held, stays k low held)
     | inr loose ↦
         let fits = way_fits c.inst.travel (bays_between (stand_of o.stands k).bay (places k)) (c.clock - (stand_of o.stands k).until)
         (omega (arith, (travel_of c.inst valid).0)) (in_reach k low) in
