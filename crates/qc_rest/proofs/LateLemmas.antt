@@ -21,6 +21,7 @@ use Rattle.qc_model.specs.Ticks.{arrival, berth_clear, berth_distance, distance,
 use Rattle.qc_model.proofs.Bays.{bays}
 use Rattle.qc_model.proofs.Extremes.{greatest_le}
 use Rattle.qc_model.proofs.LimitsOf.{travel_of}
+use Rattle.qc_model.proofs.NodeLemmas.{one_crane_apart}
 use Rattle.qc_rest.specs.declared.stand.Stand.{Stand}
 use Rattle.qc_rest.specs.GoneOn.{AreGoneOn, MayGoBy, end_with}
 use Rattle.qc_rest.specs.OldOrder.{IsOldOrder, MayFollowBy}
@@ -98,16 +99,10 @@ module _ (o : Outlook) (valid : Valid o.course.inst) (plan : Feasible o.course.i
         berths : (v : ℕ) → v < length c.inst.cranes → 0 < berth_distance c.inst v (crane_of c.plan j) (bay_of c.inst j)
             → berth_clear c.inst v (crane_of c.plan j) (bay_of c.inst j) ≤ c.clock + begins j
         berths v low near = elim (cases_eq v (crane_of c.plan j)) [
-          | inl same ↦ absurd (omega (arith, near, itself v same))
+          | inl same ↦ absurd (omega (arith, near, one_crane_apart c.inst v (crane_of c.plan j) (crane c.inst v).bay (bay_of c.inst j) same))
           | inr differ ↦ subst (λ (k : ℕ). v ≢ k → 0 < berth_distance c.inst v k (bay_of c.inst j) → berth_clear c.inst v k (bay_of c.inst j) ≤ c.clock + begins j)
               crane_same (berth_kept c o.over o.stands rest sched valid plan keeps known exact.is feasible j waits v low) differ near
         ]
-          where
-            itself : (v : ℕ) → v ≡ crane_of c.plan j → berth_distance c.inst v (crane_of c.plan j) (bay_of c.inst j) ≡ 0
-            itself v same =
-                let p : v ≤ crane_of c.plan j = omega arith in
-                let q : crane_of c.plan j ≤ v = omega arith in
-                rw (le-ltb v (crane_of c.plan j) q, le-ltb (crane_of c.plan j) v p) (omega arith)
 
     module _ (i : ℕ) (leads : Leads c.inst c.plan i j) (begun : HasBegun c i) where
       first_of_two : AreTied c.inst c.plan i j → (crane_of c.plan i ≡ crane_of c.plan j → ⊥) → slot_distance c.inst c.plan i j ≡ 0

@@ -8,3 +8,4 @@ pub mod LimitLemmas
 pub mod PlaceLemmas
 pub mod OldLemmas
 pub mod LateLemmas
+pub mod RestLemmas

@@ -32,40 +32,29 @@ use Rattle.qc_rest.proofs.StandLemmas.{distance_at, gap_of_one, gap_of_two}
 
 -- ---- ticks and bays
 
+fits_parts : (t n a b q r : ℕ) → a < t * q + t → b ≤ r * t → t * n ≤ a + b → n ≤ q + r
+fits_parts t n a b q r low up fits = elim (cases_lt (q + r) n) [
+  | inr done ↦ done
+  | inl fewer ↦
+      let whole : q + r + 1 ≤ n = omega (arith, fewer) in
+      let more : t * (q + r + 1) ≤ t * n = mul-le-mul_left t whole in
+      absurd (omega (arith, more, up, low, fits))
+]
+
+floor_low : (t a : ℕ) → 0 < t → a < t * (a / t) + t
+floor_low t a some = omega arith
+
 -- so many bays are gone in these ticks, those gone rounded down and those to go rounded up
 pub floor_ceil : (t n a b : ℕ) → 0 < t → t * n ≤ a + b → n ≤ a / t + div_ceil b t
-floor_ceil t n a b some fits = elim (cases_lt (a / t + div_ceil b t) n) [
-  | inr done ↦ done
-  | inl fewer ↦
-      let whole : a / t + div_ceil b t + 1 ≤ n = omega (arith, fewer) in
-      let more = mul-le-mul_left t whole in
-      let up : b ≤ div_ceil b t * t = (div_ceil_times b t some).0 in
-      let low : a < t * (a / t) + t = omega arith in
-      let parts : t * (a / t + div_ceil b t + 1) ≡ t * (a / t) + div_ceil b t * t + t = omega arith in
-      absurd (omega (arith, more, up, low, parts, fits))
-]
+floor_ceil t n a b some fits = fits_parts t n a b (a / t) (div_ceil b t) (floor_low t a some) (div_ceil_times b t some).0 fits
 
 floor_fits : (t n a : ℕ) → 0 < t → t * n ≤ a → n ≤ a / t
-floor_fits t n a some fits = elim (cases_lt (a / t) n) [
-  | inr done ↦ done
-  | inl fewer ↦
-      let whole : a / t + 1 ≤ n = omega (arith, fewer) in
-      let more = mul-le-mul_left t whole in
-      let low : a < t * (a / t) + t = omega arith in
-      let parts : t * (a / t + 1) ≡ t * (a / t) + t = omega arith in
-      absurd (omega (arith, more, low, parts, fits))
-]
+floor_fits t n a some fits =
+    omega (arith, fits_parts t n a 0 (a / t) 0 (floor_low t a some) (omega arith) (omega (arith, fits)))
 
 ceil_fits : (t n b : ℕ) → 0 < t → t * n ≤ b → n ≤ div_ceil b t
-ceil_fits t n b some fits = elim (cases_lt (div_ceil b t) n) [
-  | inr done ↦ done
-  | inl fewer ↦
-      let whole : div_ceil b t + 1 ≤ n = omega (arith, fewer) in
-      let more = mul-le-mul_left t whole in
-      let up : b ≤ div_ceil b t * t = (div_ceil_times b t some).0 in
-      let parts : t * (div_ceil b t + 1) ≡ div_ceil b t * t + t = omega arith in
-      absurd (omega (arith, more, up, parts, fits, some))
-]
+ceil_fits t n b some fits =
+    omega (arith, fits_parts t n 0 b 0 (div_ceil b t) (omega (arith, some)) (div_ceil_times b t some).0 (omega (arith, fits)))
 
 -- how many bays crane v at X is above where it clears crane w at Y
 abbrev pub rise : InstanceView → ℕ → ℤ → ℕ → ℤ → ℕ
@@ -172,10 +161,10 @@ module _ (o : Outlook) (valid : Valid o.course.inst) (plan : Feasible o.course.i
   goes_free j waits = ((gone.each_one j waits (o.goes j)).0 (omega arith)).free
 
   pub end_begun : (i : ℕ) → HasBegun c i → ends i ≡ o.over i
-  end_begun i begun = cond-false (is_waiting (stage_of c i)) _ _ (begun_not_waiting (stage_of c i) begun)
+  end_begun i begun = cond-false (is_waiting (stage_of c i)) (o.goes i + ticks_of c.inst i) (o.over i) (begun_not_waiting (stage_of c i) begun)
 
   pub end_left : (i : ℕ) → IsLeft c i → ends i ≡ o.goes i + ticks_of c.inst i
-  end_left i waits = cond-true (is_waiting (stage_of c i)) _ _ (ap is_waiting waits.waits)
+  end_left i waits = cond-true (is_waiting (stage_of c i)) (o.goes i + ticks_of c.inst i) (o.over i) (ap is_waiting waits.waits)
 
   not_both : (i j : ℕ) → HasBegun c i → IsLeft c j → i ≢ j
   not_both i j begun waits e =

@@ -35,6 +35,9 @@ moved_up g h n x y e low = omega (arith, bays)
 near_enough : (x y : ℤ) (a : ℕ) → (y -ℤ pos a) ≤ℤ x → x ≤ℤ (y +ℤ pos a) → bays_between y x ≤ a
 near_enough x y a low high = omega (arith, bays)
 
+near_both : (x y : ℤ) (a : ℕ) → y ≤ℤ (x +ℤ pos a) → x ≤ℤ (y +ℤ pos a) → bays_between x y ≤ a
+near_both x y a low high = omega (arith, bays)
+
 under : (x y : ℤ) (a : ℕ) → (y -ℤ pos a) ≤ℤ x → y ≤ℤ (x +ℤ pos a)
 under x y a low = omega (arith, bays)
 
@@ -158,7 +161,7 @@ module _ (o : Outlook) (valid : Valid o.course.inst) (plan : Feasible o.course.i
       let above = (high_enough k low).tasks j next in
       let rooms = (are.highest k low (places k)).0 (all_below k low) k (omega arith) low in
       let below = self_gap c.inst.gap k (places k) _ (rooms.tasks j next) in
-      omega (arith, bays, above, below)
+      near_both (places k) (bay_of c.inst j) (off_of o j) above below
 
   -- each crane can be at its place by now
   pub can_be : (k : ℕ) → k < length c.inst.cranes → CanBeAt c.inst c.clock (stand_of o.stands k) (places k)

@@ -19,7 +19,7 @@ use Rattle.qc_rest.specs.Progress.{AreOver, HasBegun, IsLeft, number_of}
 use Rattle.qc_rest.specs.Rest.{IsRest}
 use Rattle.qc_rest.proofs.BayLemmas.{distance_same, travel_swapped}
 use Rattle.qc_rest.proofs.BegunLemmas.{begun_before, begun_or_waits, clear, freed, over_before}
-use Rattle.qc_rest.proofs.PairLemmas.{berth_kept, by, from_berth, held_back, numbers_differ, one_crane, starts, two_cranes}
+use Rattle.qc_rest.proofs.PairLemmas.{berth_kept, from_berth, held_back, numbers_differ, one_crane, two_cranes}
 use Rattle.qc_rest.proofs.StandLemmas.{bay_left, crane_low, distance_at, gap_of_one, gap_of_two, number_low, ticks_left}
 
 module _ (c : Course) (over : ℕ → ℕ) (stands : List Stand) (rest : InstanceView) (new : List Slot) (tasks : List Task)
@@ -94,7 +94,7 @@ module _ (c : Course) (over : ℕ → ℕ) (stands : List Stand) (rest : Instanc
     reach_left : IsLeft c j → ReachIsKept
     reach_left waits =
         let kept = feasible.reach (number_of c j) (low_at j waits) in
-        let now = is.cranes (by c over stands rest new j) (crane_low c over stands rest new keeps is feasible j waits) in
+        let now = is.cranes (crane_of new (number_of c j)) (crane_low c over stands rest new keeps is feasible j waits) in
         let from = subst (λ (x : ℤ). (crane rest (crane_of new (number_of c j))).from ≤ℤ x) (bay_at j waits) kept.0 in
         let to = subst (λ (x : ℤ). x ≤ℤ (crane rest (crane_of new (number_of c j))).to) (bay_at j waits) kept.1 in
         rw (w.planned j waits).crane (

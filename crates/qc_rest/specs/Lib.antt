@@ -5,3 +5,4 @@ pub mod Joined
 pub mod GoneOn
 pub mod Places
 pub mod OldOrder
+pub mod RestOf
