@@ -9,3 +9,5 @@ pub mod PlaceLemmas
 pub mod OldLemmas
 pub mod LateLemmas
 pub mod RestLemmas
+pub mod EndLemmas
+pub mod ValidLemmas

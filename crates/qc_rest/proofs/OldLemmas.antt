@@ -23,7 +23,7 @@ use Rattle.qc_rest.proofs.LimitLemmas.{free_clear}
 use Rattle.qc_rest.proofs.NumberLemmas.{numbered}
 use Rattle.qc_rest.proofs.StandLemmas.{distance_at, gap_of_one, gap_of_two}
 
-is_left : (s : Stage) → is_waiting s ≡ true → s ≡ Waiting
+pub is_left : (s : Stage) → is_waiting s ≡ true → s ≡ Waiting
 is_left Waiting h = refl
 is_left (Running start) h = absurd (false≢true h)
 is_left (Ended start end) h = absurd (false≢true h)

@@ -78,11 +78,11 @@ contains_filter p (y ∷ ys) x passes (suc k, low, at) =
     (λ t. (suc rest.0, omega (arith, rest.1), rest.2)) (λ f. rest)
 
 -- what an element of a mapped part of a list is of
-record IsOf {X Y : Type 0} (p : X → Bool) (f : X → Y) (xs : List X) (y : Y) : Type 0 where
-  of : X
-  inside : Contains xs of
-  passes : p of ≡ true
-  is : f of ≡ y
+pub record IsOf {X Y : Type 0} (p : X → Bool) (f : X → Y) (xs : List X) (y : Y) : Type 0 where
+  pub of : X
+  pub inside : Contains xs of
+  pub passes : p of ≡ true
+  pub is : f of ≡ y
 
 one_further : {X Y : Type 0} (p : X → Bool) (f : X → Y) (x : X) (xs : List X) (y : Y) → IsOf p f xs y → IsOf p f (x ∷ xs) y
 one_further p f x xs y is = record {
@@ -92,7 +92,7 @@ one_further p f x xs y is = record {
   is = is.is;
 }
 
-contains_of : {X Y : Type 0} (p : X → Bool) (f : X → Y) (xs : List X) (y : Y) → Contains (map f (filter p xs)) y → IsOf p f xs y
+pub contains_of : {X Y : Type 0} (p : X → Bool) (f : X → Y) (xs : List X) (y : Y) → Contains (map f (filter p xs)) y → IsOf p f xs y
 contains_of p f [] y (k, low, at) = absurd (omega arith)
 contains_of p f (x ∷ xs) y has = elim (cases_Bool (p x)) [
   | inr fails ↦
@@ -113,12 +113,12 @@ paired_found pairs i j has =
     let found = subst (λ (p : Pair). ((p.first == i) && (p.second == j)) ≡ true) (sym has.2) itself in
     list_any_at (λ (pair : Pair). (pair.first == i) && (pair.second == j)) pairs has.0 (pair_of i j) has.1 found
 
-runs_since : (s : Stage) → is_running s ≡ true → (start : ℕ) × (s ≡ Running start)
+pub runs_since : (s : Stage) → is_running s ≡ true → (start : ℕ) × (s ≡ Running start)
 runs_since Waiting runs = absurd (false≢true runs)
 runs_since (Running start) runs = (start, refl)
 runs_since (Ended start end) runs = absurd (false≢true runs)
 
-waits_there : (s : Stage) → is_waiting s ≡ true → s ≡ Waiting
+pub waits_there : (s : Stage) → is_waiting s ≡ true → s ≡ Waiting
 waits_there Waiting waits = refl
 waits_there (Running start) waits = absurd (false≢true waits)
 waits_there (Ended start end) waits = absurd (false≢true waits)
@@ -155,29 +155,29 @@ module _ (c : Course) (over : ℕ → ℕ) (stands : List Stand) (places : ℕ �
       ≡ filter (λ j. is_waiting (stage_of c j)) (range_with_len 0 (length c.stages))
   left_is n e = ap (λ (m : ℕ). filter (λ j. is_waiting (stage_of c j)) (range_with_len 0 m)) e
 
-  left_count : length (left_tasks c) ≡ left c
+  pub left_count : length (left_tasks c) ≡ left c
   left_count =
       ap length (left_is (length c.inst.tasks) (sym keeps.stages))
       ∙ stretch_count is_waiting (λ j. is_waiting (stage_of c j)) c.stages 0 Waiting same_test
 
-  left_at : (j : ℕ) → IsLeft c j → get_or (left_tasks c) (number_of c j) 0 ≡ j
+  pub left_at : (j : ℕ) → IsLeft c j → get_or (left_tasks c) (number_of c j) 0 ≡ j
   left_at j waits =
       ap (λ (ys : List ℕ). get_or ys (number_of c j) 0) (left_is (length c.inst.tasks) (sym keeps.stages))
       ∙ stretch_at is_waiting (λ j. is_waiting (stage_of c j)) c.stages 0 j Waiting 0 same_test
       (omega (arith, waits.task, keeps.stages)) (ap is_waiting waits.waits) ∙ omega arith
 
-  number_low : (j : ℕ) → IsLeft c j → number_of c j < left c
+  pub number_low : (j : ℕ) → IsLeft c j → number_of c j < left c
   number_low j waits = count_below is_waiting c.stages j Waiting (omega (arith, waits.task, keeps.stages)) (ap is_waiting waits.waits)
 
-  abbrev rest : InstanceView
+  abbrev pub rest : InstanceView
   rest = rest_of c over stands places
 
-  task_is : (j : ℕ) → IsLeft c j → task rest (number_of c j) ≡ task_in c over j
+  pub task_is : (j : ℕ) → IsLeft c j → task rest (number_of c j) ≡ task_in c over j
   task_is j waits =
       get_or-map (task_in c over) (left_tasks c) (number_of c j) 0 no_task (omega (arith, left_count, number_low j waits))
       ∙ ap (task_in c over) (left_at j waits)
 
-  crane_is : (k : ℕ) → k < length c.inst.cranes → crane rest k ≡ crane_in c stands places k
+  pub crane_is : (k : ℕ) → k < length c.inst.cranes → crane rest k ≡ crane_in c stands places k
   crane_is k low = get_or-map-range_with_len (crane_in c stands places) 0 (length c.inst.cranes) k k no_crane low (omega arith) (omega arith)
 
   held_in : (i j : ℕ) → HoldsBack c i j → over i ≤ c.clock + release_in c over j
@@ -186,7 +186,7 @@ module _ (c : Course) (over : ℕ → ℕ) (stands : List Stand) (places : ℕ �
       let is = cond-true (holds_back c i j) (over i - c.clock) 0 (holds_test c i j holds) in
       omega (arith, most, is)
 
-  release_least : (j tick : ℕ) → release_of c.inst j ≤ c.clock + tick → ((i : ℕ) → HoldsBack c i j → over i ≤ c.clock + tick)
+  pub release_least : (j tick : ℕ) → release_of c.inst j ≤ c.clock + tick → ((i : ℕ) → HoldsBack c i j → over i ≤ c.clock + tick)
       → release_in c over j ≤ tick
   release_least j tick released held =
       let most : greatest (map (held_by c over j) (range_with_len 0 (length c.inst.tasks))) ≤ tick =
@@ -196,14 +196,14 @@ module _ (c : Course) (over : ℕ → ℕ) (stands : List Stand) (places : ℕ �
       omega (arith, most, released)
 
   -- pairs of tasks that are left
-  both_left : (pairs : List Pair) (i j : ℕ) → IsLeft c i → IsLeft c j → Contains pairs (pair_of i j)
+  pub both_left : (pairs : List Pair) (i j : ℕ) → IsLeft c i → IsLeft c j → Contains pairs (pair_of i j)
       → Contains (pairs_in c pairs) (pair_of (number_of c i) (number_of c j))
   both_left pairs i j here there has =
       Contains-map (λ (p : Pair). pair_of (number_of c p.first) (number_of c p.second)) _ (pair_of i j)
       (contains_filter (λ (p : Pair). is_waiting (stage_of c p.first) && is_waiting (stage_of c p.second)) pairs (pair_of i j)
       (and_from (is_waiting (stage_of c i)) (is_waiting (stage_of c j)) (ap is_waiting here.waits) (ap is_waiting there.waits)) has)
 
-  one_number : (i j : ℕ) → IsLeft c i → IsLeft c j → number_of c i ≡ number_of c j → i ≡ j
+  pub one_number : (i j : ℕ) → IsLeft c i → IsLeft c j → number_of c i ≡ number_of c j → i ≡ j
   one_number i j here there same = elim (cases_eq i j) [
     | inl e ↦ e
     | inr differ ↦ absurd (counts_differ is_waiting c.stages i j Waiting differ (omega (arith, here.task, keeps.stages))

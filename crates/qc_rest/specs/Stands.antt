@@ -36,3 +36,7 @@ no_stand = record { bay = pos 0; until = 0 }
 
 abbrev pub stand_of : List Stand → ℕ → Stand
 stand_of stands k = slice_index_or stands k no_stand
+
+-- where each crane stands
+abbrev pub AreStands : Course → (ℕ → ℕ) → List Stand → Type 0
+AreStands c over stands = (k : ℕ) → k < length c.inst.cranes → IsStand c over k (stand_of stands k)
