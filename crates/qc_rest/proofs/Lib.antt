@@ -11,3 +11,4 @@ pub mod LateLemmas
 pub mod RestLemmas
 pub mod EndLemmas
 pub mod ValidLemmas
+pub mod RemainingLemmas

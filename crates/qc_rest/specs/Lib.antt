@@ -1,8 +1,9 @@
 pub mod Progress
+pub mod Remaining
 pub mod Stands
-pub mod Rest
-pub mod Joined
 pub mod GoneOn
 pub mod Places
-pub mod OldOrder
+pub mod Rest
 pub mod RestOf
+pub mod OldOrder
+pub mod Joined
