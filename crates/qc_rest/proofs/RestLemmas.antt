@@ -23,7 +23,7 @@ use Rattle.qc_model.proofs.NodeLemmas.{before_found}
 use Rattle.qc_rest.specs.Progress.{IsLeft, number_of}
 use Rattle.qc_rest.specs.declared.stand.Stand.{Stand}
 use Rattle.qc_rest.specs.Rest.{HoldsBack, IsCraneNow, IsExactRest, IsRest, IsTaskLeft}
-use Rattle.qc_rest.specs.RestOf.{crane_in, held_by, holds_back, is_apart, left_tasks, pairs_in, release_in, rest_of, task_in}
+use Rattle.qc_rest.specs.RestOf.{are_left, crane_in, held_by, holds_back, is_apart, left_tasks, pairs_in, release_in, renumbered, rest_of, task_in}
 use Rattle.qc_rest.specs.Stands.{CanBeAt, IsStand, stand_of}
 use Rattle.qc_rest.proofs.NumberLemmas.{count-cons, count_below, counts_differ, tally}
 
@@ -199,8 +199,8 @@ module _ (c : Course) (over : ℕ → ℕ) (stands : List Stand) (places : ℕ �
   pub both_left : (pairs : List Pair) (i j : ℕ) → IsLeft c i → IsLeft c j → Contains pairs (pair_of i j)
       → Contains (pairs_in c pairs) (pair_of (number_of c i) (number_of c j))
   both_left pairs i j here there has =
-      Contains-map (λ (p : Pair). pair_of (number_of c p.first) (number_of c p.second)) _ (pair_of i j)
-      (contains_filter (λ (p : Pair). is_waiting (stage_of c p.first) && is_waiting (stage_of c p.second)) pairs (pair_of i j)
+      Contains-map (renumbered c) (filter (are_left c) pairs) (pair_of i j)
+      (contains_filter (are_left c) pairs (pair_of i j)
       (and_from (is_waiting (stage_of c i)) (is_waiting (stage_of c j)) (ap is_waiting here.waits) (ap is_waiting there.waits)) has)
 
   pub one_number : (i j : ℕ) → IsLeft c i → IsLeft c j → number_of c i ≡ number_of c j → i ≡ j
@@ -217,8 +217,7 @@ module _ (c : Course) (over : ℕ → ℕ) (stands : List Stand) (places : ℕ �
   pair_back : (pairs : List Pair) (i j : ℕ) → ((a b : ℕ) → Contains pairs (pair_of a b) → (a < length c.inst.tasks) × (b < length c.inst.tasks))
       → IsLeft c i → IsLeft c j → Contains (pairs_in c pairs) (pair_of (number_of c i) (number_of c j)) → Contains pairs (pair_of i j)
   pair_back pairs i j range here there has =
-      let is = contains_of (λ (p : Pair). is_waiting (stage_of c p.first) && is_waiting (stage_of c p.second))
-      (λ (p : Pair). pair_of (number_of c p.first) (number_of c p.second)) pairs (pair_of (number_of c i) (number_of c j)) has in
+      let is = contains_of (are_left c) (renumbered c) pairs (pair_of (number_of c i) (number_of c j)) has in
       let low = range is.of.first is.of.second is.inside in
       let left = and_parts (is_waiting (stage_of c is.of.first)) (is_waiting (stage_of c is.of.second)) is.passes in
       let one = one_number is.of.first i (record { task = low.0; waits = waits_there _ left.0 }) here (ap (λ (p : Pair). p.first) is.is) in

@@ -21,7 +21,7 @@ use Rattle.qc_model.specs.Tasks.{task_rank}
 use Rattle.qc_rest.specs.declared.stand.Stand.{Stand}
 use Rattle.qc_rest.specs.Progress.{AreOver, HasBegun, IsLeft, number_of}
 use Rattle.qc_rest.specs.Rest.{HoldsBack}
-use Rattle.qc_rest.specs.RestOf.{crane_in, left_tasks, pairs_in, rest_of, task_in}
+use Rattle.qc_rest.specs.RestOf.{are_left, crane_in, left_tasks, pairs_in, renumbered, rest_of, task_in}
 use Rattle.qc_rest.specs.Stands.{AreStands, stand_of}
 use Rattle.qc_rest.proofs.BegunLemmas.{runs_or_over}
 use Rattle.qc_rest.proofs.NumberLemmas.{count_rises, numbered}
@@ -178,12 +178,6 @@ module _ (c : Course) (over : ℕ → ℕ) (stands : List Stand) (places : ℕ �
 
   -- ---- pairs
 
-  abbrev two_left : Pair → Bool
-  two_left p = is_waiting (stage_of c p.first) && is_waiting (stage_of c p.second)
-
-  abbrev renumbered : Pair → Pair
-  renumbered p = pair_of (number_of c p.first) (number_of c p.second)
-
   abbrev AreTasks : List Pair → Type 0
   AreTasks pairs = (i j : ℕ) → Contains pairs (pair_of i j) → (i < length c.inst.tasks) × (j < length c.inst.tasks)
 
@@ -199,7 +193,7 @@ module _ (c : Course) (over : ℕ → ℕ) (stands : List Stand) (places : ℕ �
 
   pair_is : (pairs : List Pair) → AreTasks pairs → (a b : ℕ) → Contains (pairs_in c pairs) (pair_of a b) → IsPair pairs a b
   pair_is pairs tasks a b has =
-      let is = contains_of two_left renumbered pairs (pair_of a b) has in
+      let is = contains_of (are_left c) (renumbered c) pairs (pair_of a b) has in
       let low = tasks is.of.first is.of.second is.inside in
       let waits = and_parts (is_waiting (stage_of c is.of.first)) (is_waiting (stage_of c is.of.second)) is.passes in
       record {
@@ -268,7 +262,7 @@ module _ (c : Course) (over : ℕ → ℕ) (stands : List Stand) (places : ℕ �
 
   -- of pairs of tasks that are left the earlier one has the lower numbers
   still_earlier : (p q : Pair) → IsLeft c p.first → IsLeft c p.second → IsLeft c q.first → IsLeft c q.second → IsEarlier p q
-      → IsEarlier (renumbered p) (renumbered q)
+      → IsEarlier (renumbered c p) (renumbered c q)
   still_earlier p q one two three four earlier = elim (cases_eq p.first q.first) [
     | inl same ↦
         let e = ap (number_of c) same in
@@ -280,29 +274,29 @@ module _ (c : Course) (over : ℕ → ℕ) (stands : List Stand) (places : ℕ �
 
   sorted_in : (pairs : List Pair) → AreTasks pairs → AllPairs IsEarlier pairs → AllPairs IsEarlier (pairs_in c pairs)
   sorted_in pairs tasks sorted i j d less low =
-      let kept = filter two_left pairs in
-      let high : j < length kept = omega (arith, low, length-map kept renumbered) in
+      let kept = filter (are_left c) pairs in
+      let high : j < length kept = omega (arith, low, length-map kept (renumbered c)) in
       let lower : i < length kept = omega (arith, less, high) in
       let none = pair_of 0 0 in
       let p = slice_index_or kept i none in
       let q = slice_index_or kept j none in
-      let earlier : IsEarlier p q = AllPairs-filter IsEarlier two_left pairs sorted i j none less high in
-      let at_i : slice_index_or (map renumbered kept) i d ≡ renumbered p = get_or-map renumbered kept i none d lower in
-      let at_j : slice_index_or (map renumbered kept) j d ≡ renumbered q = get_or-map renumbered kept j none d high in
+      let earlier : IsEarlier p q = AllPairs-filter IsEarlier (are_left c) pairs sorted i j none less high in
+      let at_i : slice_index_or (map (renumbered c) kept) i d ≡ renumbered c p = get_or-map (renumbered c) kept i none d lower in
+      let at_j : slice_index_or (map (renumbered c) kept) j d ≡ renumbered c q = get_or-map (renumbered c) kept j none d high in
       let one = left_pair pairs tasks i lower in
       let other = left_pair pairs tasks j high in
-      subst (λ (x : Pair). IsEarlier x (slice_index_or (map renumbered kept) j d)) (sym at_i)
-      (subst (λ (y : Pair). IsEarlier (renumbered p) y) (sym at_j)
+      subst (λ (x : Pair). IsEarlier x (slice_index_or (map (renumbered c) kept) j d)) (sym at_i)
+      (subst (λ (y : Pair). IsEarlier (renumbered c p) y) (sym at_j)
       (still_earlier p q one.0 one.1 other.0 other.1 earlier))
     where
-      left_pair : (pairs : List Pair) → AreTasks pairs → (i : ℕ) → i < length (filter two_left pairs)
-          → IsLeft c (slice_index_or (filter two_left pairs) i (pair_of 0 0)).first
-          × IsLeft c (slice_index_or (filter two_left pairs) i (pair_of 0 0)).second
+      left_pair : (pairs : List Pair) → AreTasks pairs → (i : ℕ) → i < length (filter (are_left c) pairs)
+          → IsLeft c (slice_index_or (filter (are_left c) pairs) i (pair_of 0 0)).first
+          × IsLeft c (slice_index_or (filter (are_left c) pairs) i (pair_of 0 0)).second
       left_pair pairs tasks i low =
-          let kept = filter two_left pairs in
+          let kept = filter (are_left c) pairs in
           let x = slice_index_or kept i (pair_of 0 0) in
-          let passes : two_left x ≡ true = All-get_or (λ (p : Pair). two_left p ≡ true) kept i (pair_of 0 0) low (filter_passes two_left pairs) in
-          let inside : Contains pairs x = All-get_or (Contains pairs) kept i (pair_of 0 0) low (All-filter two_left (Contains pairs) pairs (All-contains_itself pairs)) in
+          let passes : are_left c x ≡ true = All-get_or (λ (p : Pair). are_left c p ≡ true) kept i (pair_of 0 0) low (filter_passes (are_left c) pairs) in
+          let inside : Contains pairs x = All-get_or (Contains pairs) kept i (pair_of 0 0) low (All-filter (are_left c) (Contains pairs) pairs (All-contains_itself pairs)) in
           let range = tasks x.first x.second inside in
           let waits = and_parts (is_waiting (stage_of c x.first)) (is_waiting (stage_of c x.second)) passes in
           (record { task = range.0; waits = waits_there (stage_of c x.first) waits.0 },
@@ -329,8 +323,8 @@ module _ (c : Course) (over : ℕ → ℕ) (stands : List Stand) (places : ℕ �
 
   apart_valid : HasValidApart rest
   apart_valid = record {
-    count = omega (arith, length-map (filter two_left c.inst.apart) renumbered, length-filter two_left c.inst.apart,
-        count_by-le-length two_left c.inst.apart, valid.apart.count);
+    count = omega (arith, length-map (filter (are_left c) c.inst.apart) (renumbered c), length-filter (are_left c) c.inst.apart,
+        count_by-le-length (are_left c) c.inst.apart, valid.apart.count);
     range = λ a b is. apart_range a b (pair_is c.inst.apart apart_tasks a b is);
     sorted = sorted_in c.inst.apart apart_tasks valid.apart.sorted;
   }

@@ -39,11 +39,17 @@ task_in c over j = record (task c.inst j) { release = release_in c over j }
 abbrev pub crane_in : Course → List Stand → (ℕ → ℤ) → ℕ → Crane
 crane_in c stands places k = record (crane c.inst k) { bay = places k; ready = (stand_of stands k).until - c.clock }
 
--- the pairs of which both tasks are left, by their numbers there
+-- both tasks of a pair are left
+abbrev pub are_left : Course → Pair → Bool
+are_left c pair = is_waiting (stage_of c pair.first) && is_waiting (stage_of c pair.second)
+
+-- the same pair by the numbers that its tasks have among those that are left
+abbrev pub renumbered : Course → Pair → Pair
+renumbered c pair = pair_of (number_of c pair.first) (number_of c pair.second)
+
+-- the pairs of which both tasks are left
 abbrev pub pairs_in : Course → List Pair → List Pair
-pairs_in c pairs =
-    map (λ pair. pair_of (number_of c pair.first) (number_of c pair.second))
-    (filter (λ pair. is_waiting (stage_of c pair.first) && is_waiting (stage_of c pair.second)) pairs)
+pairs_in c pairs = map (renumbered c) (filter (are_left c) pairs)
 
 -- what is left of the work as an instance of its own, which begins now
 abbrev pub rest_of : Course → (ℕ → ℕ) → List Stand → (ℕ → ℤ) → InstanceView
