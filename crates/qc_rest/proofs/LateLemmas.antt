@@ -240,7 +240,7 @@ module _ (o : Outlook) (valid : Valid o.course.inst) (plan : Feasible o.course.i
     arrives =
         let way : travel_between rest (crane rest w).bay (bay_of rest (number_of c j)) ≡ travel_between c.inst (places w) l =
         ap (travel_between rest (crane rest w).bay) bay_at
-        ∙ ap (λ (x : ℤ). travel_between rest x l) (exact.places w w_low)
+        ∙ ap (λ (x : ℤ). travel_between rest x l) (exact.placed w w_low)
         ∙ ap (λ (t : ℕ). t * bays_between (places w) l) exact.is.travel in
         omega (arith, way, exact.ready w w_low, own_way)
 
@@ -248,7 +248,7 @@ module _ (o : Outlook) (valid : Valid o.course.inst) (plan : Feasible o.course.i
         → berth_distance rest v w (bay_of rest (number_of c j)) ≡ distance c.inst v (places v) w l
     distance_at_place v high =
         ap (distance rest v (crane rest v).bay w) bay_at
-        ∙ ap (λ (x : ℤ). distance rest v x w l) (exact.places v high)
+        ∙ ap (λ (x : ℤ). distance rest v x w l) (exact.placed v high)
         ∙ distance_same rest c.inst exact.is.travel exact.is.gap v (places v) w l
 
     berths : (v : ℕ) → v < length rest.cranes → 0 < berth_distance rest v w (bay_of rest (number_of c j))
@@ -269,7 +269,7 @@ module _ (o : Outlook) (valid : Valid o.course.inst) (plan : Feasible o.course.i
     ]
       where
         still_runs : (s : Stage) (start : ℕ) → s ≡ Waiting → s ≡ Running start → ⊥
-        still_runs s start one other = cc one other
+        still_runs s start one other = cc
 
         tied_by : IsBefore c.inst i j ⊎ ArePaired c.inst i j → AreTied c.inst c.plan i j
         tied_by (inl is) = inl is

@@ -68,11 +68,11 @@ stretch_at p q (x ∷ xs) a (suc j) d e same low passes =
 
 -- an element of a list is one of those that pass a test, where it does
 contains_filter : {X : Type 0} (p : X → Bool) (xs : List X) (x : X) → p x ≡ true → Contains xs x → Contains (filter p xs) x
-contains_filter p [] x passes (k, low, at) = absurd (omega arith)
-contains_filter p (y ∷ ys) x passes (zero, low, at) =
+contains_filter {X = X} p [] x passes (k, low, at) = absurd (omega arith)
+contains_filter {X = X} p (y ∷ ys) x passes (zero, low, at) =
     let first : p y ≡ true = ap p at ∙ passes in
     subst (λ (zs : List X). Contains zs x) (sym (cond-true (p y) (y ∷ filter p ys) (filter p ys) first)) (0, omega arith, at)
-contains_filter p (y ∷ ys) x passes (suc k, low, at) =
+contains_filter {X = X} p (y ∷ ys) x passes (suc k, low, at) =
     let rest = contains_filter p ys x passes (k, omega arith, at) in
     cond_both (p y) (y ∷ filter p ys) (filter p ys) (λ (zs : List X). Contains zs x)
     (λ t. (suc rest.0, omega (arith, rest.1), rest.2)) (λ f. rest)
@@ -92,18 +92,21 @@ one_further p f x xs y is = record {
   is = is.is;
 }
 
+here_or_further : {X Y : Type 0} (p : X → Bool) (f : X → Y) (x : X) (xs : List X) (y : Y) → p x ≡ true
+    → (Contains (map f (filter p xs)) y → IsOf p f xs y) → Contains (f x ∷ map f (filter p xs)) y → IsOf p f (x ∷ xs) y
+here_or_further p f x xs y passes further (zero, low, at) = record { of = x; inside = (0, omega arith, refl); passes = passes; is = at }
+here_or_further p f x xs y passes further (suc k, low, at) = one_further p f x xs y (further (k, omega arith, at))
+
 pub contains_of : {X Y : Type 0} (p : X → Bool) (f : X → Y) (xs : List X) (y : Y) → Contains (map f (filter p xs)) y → IsOf p f xs y
 contains_of p f [] y (k, low, at) = absurd (omega arith)
-contains_of p f (x ∷ xs) y has = elim (cases_Bool (p x)) [
+contains_of {X = X} p f (x ∷ xs) y has = elim (cases_Bool (p x)) [
   | inr fails ↦
       one_further p f x xs y (contains_of p f xs y
       (subst (λ (zs : List X). Contains (map f zs) y) (cond-false (p x) (x ∷ filter p xs) (filter p xs) fails) has))
-  | inl passes ↦ here passes (subst (λ (zs : List X). Contains (map f zs) y) (cond-true (p x) (x ∷ filter p xs) (filter p xs) passes) has)
+  | inl passes ↦
+      here_or_further p f x xs y passes (λ rest. contains_of p f xs y rest)
+      (subst (λ (zs : List X). Contains (map f zs) y) (cond-true (p x) (x ∷ filter p xs) (filter p xs) passes) has)
 ]
-  where
-    here : p x ≡ true → Contains (f x ∷ map f (filter p xs)) y → IsOf p f (x ∷ xs) y
-    here passes (zero, low, at) = record { of = x; inside = (0, omega arith, refl); passes = passes; is = at }
-    here passes (suc k, low, at) = one_further p f x xs y (contains_of p f xs y (k, omega arith, at))
 
 -- ---- tests
 
@@ -178,7 +181,7 @@ module _ (c : Course) (over : ℕ → ℕ) (stands : List Stand) (places : ℕ �
       ∙ ap (task_in c over) (left_at j waits)
 
   pub crane_is : (k : ℕ) → k < length c.inst.cranes → crane rest k ≡ crane_in c stands places k
-  crane_is k low = get_or-map-range_with_len (crane_in c stands places) 0 (length c.inst.cranes) k k no_crane low (omega arith) (omega arith)
+  crane_is k low = get_or-map-range_with_len (crane_in c stands places) 0 (length c.inst.cranes) k k no_crane low (omega arith)
 
   held_in : (i j : ℕ) → HoldsBack c i j → over i ≤ c.clock + release_in c over j
   held_in i j holds =
@@ -260,7 +263,7 @@ module _ (c : Course) (over : ℕ → ℕ) (stands : List Stand) (places : ℕ �
     rest_exact = record {
       is = is_rest;
       releases = λ j waits tick released held. subst (λ (t : Task). t.release ≤ tick) (sym (task_is j waits)) (release_least j tick released held);
-      places = λ k low. ap (λ (k : Crane). k.bay) (crane_is k low);
+      placed = λ k low. ap (λ (k : Crane). k.bay) (crane_is k low);
       ready = λ k low. ap (λ (k : Crane). k.ready) (crane_is k low);
       only_before = λ i j here there. pair_back c.inst.before i j valid.before.range here there;
       only_apart = λ i j here there. pair_back c.inst.apart i j (λ a b is. let r = valid.apart.range a b is in (omega (arith, r.0, r.1), r.1)) here there;

@@ -51,7 +51,7 @@ pub record IsExactRest (c : Course) (over : ℕ → ℕ) (stands : List Stand) (
   pub is : IsRest c over stands rest
   pub releases : (j : ℕ) → IsLeft c j → (tick : ℕ) → release_of c.inst j ≤ c.clock + tick
       → ((i : ℕ) → HoldsBack c i j → over i ≤ c.clock + tick) → release_of rest (number_of c j) ≤ tick
-  pub places : (k : ℕ) → k < length c.inst.cranes → (crane rest k).bay ≡ places k
+  pub placed : (k : ℕ) → k < length c.inst.cranes → (crane rest k).bay ≡ places k
   pub ready : (k : ℕ) → k < length c.inst.cranes → (crane rest k).ready ≡ (stand_of stands k).until - c.clock
   pub only_before : (i j : ℕ) → IsLeft c i → IsLeft c j → IsBefore rest (number_of c i) (number_of c j) → IsBefore c.inst i j
   pub only_apart : (i j : ℕ) → IsLeft c i → IsLeft c j → IsApart rest (number_of c i) (number_of c j) → IsApart c.inst i j
