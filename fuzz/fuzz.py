@@ -68,7 +68,7 @@ DONE = {
 }
 FIRST_LINE = {
     2: rb".+",
-    5: rb"BadShip (NotToml|(Missing|WrongKind|Range|HatchOrder|Apart|Task|Same|NameTwice|CraneOrder|Ring) [a-z_]+ \d+)",
+    5: rb"BadShip (NotToml|(Missing|WrongKind|Range|HatchOrder|Apart|Task|TaskTwice|Same|NameTwice|CraneOrder|Ring) [a-z_]+ \d+)",
     6: rb"BadStow [A-Za-z]+ \d+",
     7: rb"BadTree [A-Za-z]+ \d+",
     8: rb"BadPlan [A-Za-z]+ \d+",

@@ -230,7 +230,8 @@ def tiny(rng):
         places.append(place)
         place += rng.choice((1, 1, 1, 2, 3, 5))
     doing = sorted(rng.sample([(place, phase) for place in places for phase in range(4)], min(count, 4 * len(places))))
-    tasks = tuple(Task(place, PHASES[phase], place, scale * rng.randint(1, rng.choice((4, 12))))
+    tasks = tuple(Task(place, PHASES[phase], place, scale * rng.randint(1, rng.choice((4, 12))),
+                       scale * rng.choice((0, 0, 0, rng.randint(1, 40))))
                   for place, phase in doing)
     listed, berth, ready = [], rng.randint(1 - gap * cranes, places[-1] + 1), rng.choice((0, 0, 4, 12))
     for k in range(cranes):

@@ -28,6 +28,7 @@ from pathlib import Path
 
 sys.dont_write_bytecode = True  # no folder of compiled files beside the scripts
 
+from faults import ring_fault
 from free import (FreeMotion, FreeNode, FreeReader, FreeSearch, first_break, free_crane_lines, freecheck_report, tight_free)
 from freely import random_part as random_free_part
 from judges import SearchJudge, first_unsafe, given_told, is_tight, tight_form
@@ -119,6 +120,7 @@ class Case:
         self.write("stow", stow.encode())
         self.ship = read_ship(self.read("ship"))
         self.inst = instance_of(self.ship, self.read("stow"))
+        self.ring = ring_fault(self.ship, self.read("stow"))
 
     def write(self, name, data):
         (self.folder / name).write_bytes(data)
@@ -146,6 +148,12 @@ class Case:
         (place / "difference").write_text(f"{what}\nprogram:   {seen}\nreference: {due}\n")
 
     def compare(self):
+        if self.ring:
+            for words in (["tasks"], ["plan", "plan.csv", "tree.txt"], ["free", "plan.csv", "tree.txt"], ["show", "plan.csv"]):
+                words[1:1] = ["ship", "stow"]
+                self.expect(words[0], self.run(*words), (5, [self.ring]))
+            shutil.rmtree(self.folder)
+            return self.differences
         least = None if self.wide else least_end(self.inst)
         if not self.wide:
             self.counts["ships without a one-way plan" if least == NEVER else "ships with a one-way plan"] += 1

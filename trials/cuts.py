@@ -44,7 +44,7 @@ WORKED = {
     "tasks ship": """plan/apart plan/out-of-reach plan/ordered-restows plan/free-restows plan/four-phases plan/travel-3
         plan/hatches-1-and-4 plan/berths plan/places-two-cranes tasks/places tasks/ship-travel-missing
         tasks/ship-margin-range-21 tasks/ship-crane-order tasks/ship-hatches-order tasks/ship-further-key
-        tasks/ship-not-toml tasks/ship-places-one-of-two tasks/ship-places-falling tasks/ship-clear-missing""",
+        tasks/ship-not-toml tasks/not-before-behind-apart tasks/ship-places-one-of-two tasks/ship-places-falling tasks/ship-clear-missing""",
     "tasks stow": """plan/no-task-two-cranes plan/two-cranes plan/nodes-0 plan/apart plan/out-of-reach
         plan/ordered-restows plan/hatches-1-and-4 tasks/list-cell-taken-by-20-foot tasks/list-no-hatch plan/berths
         plan/places-two-cranes tasks/places""",

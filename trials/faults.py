@@ -89,6 +89,21 @@ def judge_before(pairs, hatches):
             raise Fault("Same", "before", k)
 
 
+def judge_releases(entries, hatches):
+    names, told = [f"{hatch}-{phase}" for hatch in hatches for phase in PHASES], set()
+    for k, entry in enumerate(entries, 1):
+        if not (isinstance(entry, list) and len(entry) == 2 and isinstance(entry[0], str) and is_integer(entry[1])):
+            raise Fault("WrongKind", "not_before", k)
+        name, tick = entry
+        if name not in names:
+            raise Fault("Task", "not_before", k)
+        if not 0 <= tick <= 1_000_000:
+            raise Fault("Range", "not_before", k)
+        if name in told:
+            raise Fault("TaskTwice", "not_before", k)
+        told.add(name)
+
+
 def judge_cranes(cranes, hatches, berths, gap):
     names = []
     for k, keys in enumerate(cranes, 1):
@@ -149,6 +164,7 @@ def judge_ship(data):
         raise Fault("Range", "restows")
     judge_apart(ship.array("apart", 0, 100, []), hatches)
     judge_before(ship.array("before", 0, 240, []), hatches)
+    judge_releases(ship.array("not_before", 0, 240, []), hatches)
     judge_cranes(ship.array("crane", 1, 8), len(hatches), (-10_000, 16_000) if with_places else (-200, 300), gap)
 
 

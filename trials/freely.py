@@ -29,7 +29,7 @@ from free import (FreeMotion, FreeNode, FreeReader, FreeSearch, first_break, fre
 from judges import SearchJudge
 from packed import Search, bare, least_feasible_end, random_instance, random_node, ring_of
 from reference import (NEVER, PHASES, Crane, Instance, Task, TreeFault, are_short, bound_text, counts_of, dump, end_of,
-                       instance_of, least_end, plan_text, read_plan, read_ship)
+                       instance_of, least_end, plan_text, read_plan, read_ship, without_releases)
 from ships import text_of
 
 
@@ -428,7 +428,8 @@ def dense(rng):
         places.append(place)
         place += rng.choice((1, 1, 2, 3))
     doing = sorted(rng.sample([(place, phase) for place in places for phase in range(4)], rng.choice((3, 4, 5, 5))))
-    tasks = tuple(Task(place, PHASES[phase], place, scale * rng.randint(1, rng.choice((4, 12))))
+    tasks = tuple(Task(place, PHASES[phase], place, scale * rng.randint(1, rng.choice((4, 12))),
+                       scale * rng.choice((0, 0, 0, rng.randint(1, 40))))
                   for place, phase in doing)
     listed, berth = [], rng.randint(1 - gap, 2)
     for k in range(cranes):
@@ -503,7 +504,7 @@ def try_side(side, first, number, wide):
         numbers, written = Path(folder, "numbers"), Path(folder, "tree")
         for seed in range(first, first + number):
             rng = random.Random(seed)
-            inst = random_instance(rng, 14, True) if wide else some_instance(rng)
+            inst = without_releases(random_instance(rng, 14, True) if wide else some_instance(rng))
             numbers.write_text("\n".join(dump(inst)) + "\n")
             least = FreeSearch(inst, NEVER, 60 if wide else 100_000).best
             for nodes in (0, 1, rng.randint(2, 40), 60 if wide else 20_000):

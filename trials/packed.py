@@ -24,9 +24,10 @@ from pathlib import Path
 
 sys.dont_write_bytecode = True
 
+from faults import is_ring
 from judges import SearchJudge
 from reference import (NEVER, Node, TreeFault, TreeReader, bound_text, breaks_up, check_report, dump, instance_of,
-                       least_end, least_starts, read_ship)
+                       least_end, least_starts, read_ship, without_releases)
 from ships import Maker, mended, random_part, text_of
 
 
@@ -126,7 +127,7 @@ def random_instance(rng, most, wide=False):
         maker = Maker(rng, wide)
         maker.tasks = min(maker.tasks, most)
         inst = instance_of(read_ship(maker.ship().encode()), maker.stowage().encode())
-        if inst.tasks:
+        if inst.tasks and not is_ring(len(inst.tasks), inst.before):
             return inst
 
 
@@ -383,7 +384,7 @@ def try_side(side, first, count, wide):
         numbers, written = Path(folder, "numbers"), Path(folder, "tree")
         for seed in range(first, first + count):
             rng = random.Random(seed)
-            inst = random_instance(rng, 18 if wide else 6, wide)
+            inst = without_releases(random_instance(rng, 18 if wide else 6, wide))
             numbers.write_text("\n".join(dump(inst)) + "\n")
             least = None if wide else least_end(inst)
             for nodes in (0, 1, rng.randint(2, 40), 150 if wide else 20_000):

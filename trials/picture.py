@@ -25,7 +25,7 @@ import xml.etree.ElementTree as tree
 sys.dont_write_bytecode = True  # no folder of compiled files beside the scripts
 
 from free import FreeMotion, first_break
-from reference import (PHASES, direction_of, end_of, instance_of, motion_of, read_plan, read_ship, records_of)
+from reference import PHASES, direction_of, end_of, instance_of, motion_of, moves_of, read_plan, read_ship
 from tried import add_program, program_of
 
 INKS = ["#1f3a93", "#b3261e", "#1b7837", "#762a83", "#8c510a", "#01665e", "#c51b7d", "#333333"]
@@ -43,15 +43,24 @@ class Plan:
         self.cranes = inst.cranes
         self.tasks = [(task.hatch, PHASES.index(task.phase), crane, start, start + task.ticks)
                       for task, (crane, start) in zip(inst.tasks, plan)]
+        self.held = [(task.name, task.hatch, task.release) for task, (crane, start) in zip(inst.tasks, plan)
+                     if start == task.release > self.there(inst, plan, task, crane, start)]
         self.end = end_of(inst, plan)
         way, _ = direction_of(inst, plan)
         self.way, self.parts = way and f"direction {way}", 1 if way else 2
         self.tracks = tracks_of(inst, plan, way)
         self.moves = {}
-        for _, kind, cell, _ in records_of(stow)[1:]:
+        for _, kind, cell, _ in moves_of(stow):
             phase = PHASES.index(kind + ("D" if int(cell[-2:]) >= 70 else "H"))
             hatch = ship.hatch_of(int(cell[:-4]))
             self.moves[hatch, phase] = self.moves.get((hatch, phase), 0) + 1
+
+    def there(self, inst, plan, task, crane, start):
+        """When the crane of a task can be there, from its start bay and from those of its tasks that start before."""
+        data, way = inst.cranes[crane], lambda bay: inst.travel * abs(bay - task.bay)
+        return max([data.ready + way(data.bay)] + [begun + other.ticks + way(other.bay)
+                                                   for other, (doer, begun) in zip(inst.tasks, plan)
+                                                   if doer == crane and begun < start])
 
     def figures(self, k):
         mine = [t for t in self.tasks if t[2] == k]
@@ -146,6 +155,10 @@ class Plan:
             yield rect(left + inset, down(start), right - left - 2 * inset, down(stop) - down(start),
                        f'fill="{COLOURS[phases[phase]]}" stroke="{INKS[k % 8]}" stroke-width="16">'
                        f"<title>{told}</title></rect>")
+        for name, hatch, tick in self.held:
+            left, right = column(place[hatch])
+            yield (f'<line x1="{left}" y1="{down(tick)}" x2="{right}" y2="{down(tick)}" stroke="#8c8c8c" stroke-width="16" '
+                   f'stroke-dasharray="60 40"><title>{name} not before {tick}</title></line>')
         for k, track in enumerate(self.tracks):
             points = "".join(f" {across(fine * p)},{point(m)}" for m, p in track)
             for ink, width in [("#ffffff", 44), (INKS[k % 8], 24)]:

@@ -26,7 +26,7 @@ import re
 import sys
 import tomllib
 from bisect import bisect_left
-from dataclasses import dataclass
+from dataclasses import dataclass, replace
 from fractions import Fraction
 from functools import cache, cached_property
 
@@ -52,6 +52,7 @@ class Task:
     phase: str
     bay: int
     ticks: int
+    release: int = 0  # it starts at no earlier tick
 
     @property
     def name(self):
@@ -73,7 +74,7 @@ class Instance:
         turn = lambda x: self.bays + 1 - x
         return Instance(
             self.bays, self.travel, self.gap,
-            tuple(Task(task.hatch, task.phase, turn(task.bay), task.ticks) for task in self.tasks),
+            tuple(replace(task, bay=turn(task.bay)) for task in self.tasks),
             tuple(Crane(crane.name, crane.ready, turn(crane.bay), turn(crane.high), turn(crane.low))
                   for crane in reversed(self.cranes)),
             self.before, self.apart)
@@ -91,7 +92,7 @@ class Instance:
         return self.travel * max(0, self.tasks[i].bay - self.tasks[j].bay + self.gap * (w - v))
 
     def arrival(self, task, crane):
-        """When the crane can be at the task, the other cranes left out."""
+        """When the crane can be at the task, the other cranes and the task's release left out."""
         data = self.cranes[crane]
         return data.ready + self.travel * abs(data.bay - self.tasks[task].bay)
 
@@ -103,8 +104,8 @@ class Instance:
         return self.travel * max(0, berth - bay + self.gap * (crane - other))
 
     def free_from(self, task, crane):
-        """The first tick at which the crane may work on the task as far as all start berths say."""
-        moments = [self.arrival(task, crane)]
+        """The first tick at which the crane may work on the task as far as its release and all start berths say."""
+        moments = [self.tasks[task].release, self.arrival(task, crane)]
         for other, data in enumerate(self.cranes):
             if other != crane and self.clearing(task, crane, other) > 0:
                 moments.append(data.ready + self.clearing(task, crane, other))
@@ -118,8 +119,9 @@ class Instance:
 
     @cached_property
     def grain(self):
-        """The greatest number of ticks of which the travel, all lengths and all ready times are multiples."""
-        return math.gcd(self.travel, *(task.ticks for task in self.tasks), *(crane.ready for crane in self.cranes))
+        """The greatest number of ticks of which the travel, all lengths, ready times and releases are multiples."""
+        return math.gcd(self.travel, *(task.ticks for task in self.tasks), *(crane.ready for crane in self.cranes),
+                        *(task.release for task in self.tasks))
 
     @cached_property
     def bare_count(self):
@@ -138,6 +140,7 @@ class Ship:
     ordered: bool
     apart: list
     asked: list    # pairs of names, the first task before the second
+    released: list  # names, each with the tick before which the task doesn't start
     cranes: tuple
 
     def hatch_of(self, bay):
@@ -158,7 +161,7 @@ def read_ship(data):
     gap = table["clear"] if "places" in table else table["margin"] + 1
     return Ship(hatches, places, gap, table["travel"], table["deck_move"], table["hold_move"],
                 table.get("cover", 0), table.get("restows", "free") == "ordered", table.get("apart", []),
-                table.get("before", []), cranes)
+                table.get("before", []), table.get("not_before", []), cranes)
 
 
 def records_of(data):
@@ -188,15 +191,14 @@ def instance_of(ship, data):
         on_deck = int(cell[-2:]) >= 70
         phase = {("D", True): "DD", ("D", False): "DH", ("L", False): "LH", ("L", True): "LD"}[kind, on_deck]
         moves.setdefault((ship.hatch_of(int(cell[:-4])), phase), []).append(ident)
-    tasks, doing = [], []
+    tasks, doing, releases = [], [], dict(map(tuple, ship.released))
     for hatch, place in zip(ship.hatches, ship.places):
         for phase in PHASES:
             idents = moves.get((hatch, phase), [])
-            if idents and phase in ("DD", "LD"):
-                tasks.append(Task(hatch, phase, place, len(idents) * ship.deck_move))
-            elif idents:
-                tasks.append(Task(hatch, phase, place, len(idents) * ship.hold_move + ship.cover))
+            on_deck = phase in ("DD", "LD")
+            ticks = len(idents) * ship.deck_move if on_deck else len(idents) * ship.hold_move + ship.cover
             if idents:
+                tasks.append(Task(hatch, phase, place, ticks, releases.get(f"{hatch}-{phase}", 0)))
                 doing.append(idents)
     before, apart = set(), set()
     for i, first in enumerate(tasks):
@@ -228,7 +230,7 @@ def breaks_up(inst, plan):
         if not inst.reaches(crane, j):
             yield "Reach", j
     for j, (crane, start) in enumerate(plan):
-        if start < inst.arrival(j, crane):
+        if start < max(inst.arrival(j, crane), inst.tasks[j].release):
             yield "Ready", j
     for i, j in pairs:
         if plan[i][0] == plan[j][0] and overlaps(i, j, inst.travel * abs(bay[i] - bay[j])):
@@ -867,6 +869,7 @@ def tasks_report(inst):
     lines = [f"task {task.name} {task.bay} {task.ticks}" for task in inst.tasks]
     lines += [f"before {name[i]} {name[j]}" for i, j in inst.before]
     lines += [f"apart {name[i]} {name[j]}" for i, j in inst.apart]
+    lines += [f"not_before {task.name} {task.release}" for task in inst.tasks if task.release]
     return 0, lines + [f"total {sum(task.ticks for task in inst.tasks)}"]
 
 
@@ -1020,6 +1023,7 @@ class Course:
     def __init__(self, inst, plan):
         self.inst, self.plan, self.now, self.told = inst, plan, 0, []
         self.start, self.end = [None] * len(plan), [None] * len(plan)
+        self.lefts = {}  # of a task the ticks that the last line `left` says it still needs, and the moment of that line
         tasks = range(len(plan))
         self.free = [inst.free_from(j, crane) for j, (crane, _) in enumerate(plan)]
         self.leaders = [[(i, self.gap(i, j)) for i in tasks if self.leads(i, j)] for j in tasks]
@@ -1060,8 +1064,16 @@ class Course:
             if self.start[j] is None:
                 yield from [free] + [self.end[i] + gap for i, gap in self.leaders[j] if self.end[i] is not None]
 
+    def runs(self, j):
+        return self.start[j] is not None and self.end[j] is None
+
+    def told_left(self, j, ticks):
+        if self.runs(j):
+            self.lefts[j] = ticks, self.now
+        return self.runs(j)
+
     def done(self, j):
-        if self.start[j] is None or self.end[j] is not None:
+        if not self.runs(j):
             return False
         self.end[j] = self.now
         self.told.append(f"end {self.inst.tasks[j].name} {self.now}")
@@ -1110,22 +1122,29 @@ def follow(inst, data, log):
     for number, line in enumerate(lines + [cut] * (cut != b""), 1):
         ticks = re.fullmatch(b"tick ([1-9][0-9]{0,8})", line)
         done = re.fullmatch(b"done ([^ ]+)", line, re.DOTALL)
+        left = re.fullmatch(b"left ([^ ]+) ([1-9][0-9]{0,8})", line, re.DOTALL)
+        named = done or left
         if number > 100_000:
             return 17, [f"BadLog TooMany {number}"], None
-        if number > len(lines) or not (ticks or done):
+        if number > len(lines) or not (ticks or named):
             return 17, [f"BadLog Line {number}"], None
         if ticks:
             course.tick(int(ticks[1]))
-        elif done[1] not in names:
+        elif named[1] not in names:
             return 17, [f"BadLog UnknownTask {number}"], None
-        elif not course.done(names[done[1]]):
+        elif not (course.done(names[done[1]]) if done else course.told_left(names[left[1]], int(left[2]))):
             return 17, [f"BadLog NotRunning {number}"], None
     running = sum(s is not None and e is None for s, e in zip(course.start, course.end))
     return 0, course.told + [f"now {course.now}", f"left {course.start.count(None)}", f"running {running}"], course
 
 
+def without_releases(inst):
+    """The instance in which each task may start from 0 on."""
+    return replace(inst, tasks=tuple(replace(task, release=0) for task in inst.tasks))
+
+
 def dump(inst):
-    """The instance as numbers: all cranes, tasks and pairs, each with its count before them."""
+    """The instance, which has no releases, as numbers: all cranes, tasks and pairs, each with its count before them."""
     lists = [[(crane.ready, crane.bay, crane.low, crane.high) for crane in inst.cranes],
              [(task.bay, task.ticks) for task in inst.tasks], inst.before, inst.apart]
     lines = [(inst.bays, inst.travel, inst.gap)]

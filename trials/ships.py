@@ -48,6 +48,7 @@ class Maker:
 
     def ship(self):
         rng, count = self.rng, len(self.hatches)
+        self.doing = rng.sample([(hatch, phase) for hatch in self.hatches for phase in PHASES], self.tasks)
         keys = [f"hatches = {self.hatches}",
                 f"travel = {self.some_ticks(*(3, 100) if self.placed else (5, 10_000))}",
                 f"deck_move = {self.some_ticks(12, 10_000)}", f"hold_move = {self.some_ticks(12, 10_000)}"]
@@ -64,6 +65,10 @@ class Maker:
             keys.append(f"apart = {pairs + pairs[:1] if rng.random() < 0.2 else pairs}")
         if rng.random() < 0.2:
             keys.append('port = "X"')
+        if rng.random() < 0.4:
+            keys.append(f"before = {asked_pairs(rng, self.hatches, self.doing)}")
+        if rng.random() < 0.4:
+            keys.append(f"not_before = {releases(rng, self.hatches, self.doing, self.large)}")
         rng.shuffle(keys)
         cranes = self.crane_tables()
         if rng.random() < 0.2:
@@ -98,9 +103,8 @@ class Maker:
 
     def stowage(self):
         rng = self.rng
-        doing = rng.sample([(hatch, phase) for hatch in self.hatches for phase in PHASES], self.tasks)
         rows, used, outs, ins = [], Counter(), [], []
-        for hatch, phase in doing:
+        for hatch, phase in self.doing:
             kind = "D" if phase[0] == "D" else "L"
             for _ in range(rng.choice((1, 1, 2, 2, 3, 4))):
                 slot = used[phase]
@@ -117,8 +121,36 @@ class Maker:
         rng.shuffle(rows)
         quote = '"' if rng.random() < 0.1 else ""
         feed = "\r\n" if rng.random() < 0.1 else "\n"
-        lines = ["id,move,cell,length"] + [",".join(quote + field + quote for field in row) for row in rows]
+        rows.insert(0, ["id", "move", "cell", "length"])
+        if rng.random() < 0.15:  # the columns in another order, with one that counts for nothing
+            turn = rng.sample(range(5), 5)
+            rows = [[(row + [rng.choice(("", "X", "22.5"))])[at] for at in turn] for row in rows]
+        lines = [",".join(quote + field + quote for field in row) for row in rows]
         return ("\ufeff" if rng.random() < 0.05 else "") + feed.join(lines) + feed
+
+
+def asked_pairs(rng, hatches, doing):
+    """Pairs of task names in an order that mostly has no ring: each hatch stands at some moment, and its phases behind
+    one another from there on."""
+    moment = {hatch: rng.randint(0, 4) for hatch in hatches}
+    all_tasks = [(hatch, phase) for hatch in hatches for phase in PHASES]
+    pairs = []
+    for _ in range(rng.choice((1, 1, 2, 3, 6))):
+        some = doing if len(doing) > 1 and rng.random() < 0.9 else all_tasks
+        pair = rng.sample(some, 2)
+        if rng.random() < 0.97:
+            pair.sort(key=lambda task: (moment[task[0]] + PHASES.index(task[1]), task[0]))
+        pairs.append([f"{hatch}-{phase}" for hatch, phase in pair])
+    return pairs + pairs[:1] if rng.random() < 0.1 else pairs
+
+
+def releases(rng, hatches, doing, large):
+    """Task names, each once, with ticks before which they don't start."""
+    some = rng.sample(doing, rng.randint(0, len(doing)))
+    more = [task for task in ((hatch, phase) for hatch in hatches for phase in PHASES) if task not in doing]
+    some += rng.sample(more, min(len(more), rng.choice((0, 0, 0, 1))))
+    return [[f"{hatch}-{phase}", rng.choice((0, 1, rng.randint(0, 30), rng.randint(0, 80), rng.randint(0, 1_000_000 if large else 20)))]
+            for hatch, phase in some]
 
 
 def dense_files(rng):
@@ -126,12 +158,16 @@ def dense_files(rng):
     hatches = [2, 6, 10, 14][:rng.randint(2, 4)]
     ship = (f"hatches = {hatches}\nmargin = {rng.choice((1, 1, 2))}\ntravel = {rng.choice((1, 2, 3, 5))}\n"
             f'deck_move = {rng.randint(1, 10)}\nhold_move = {rng.randint(1, 10)}\nrestows = "ordered"\n')
+    doing = rng.sample([(hatch, phase) for hatch in hatches for phase in PHASES], rng.randint(2, 5))
+    if rng.random() < 0.3:
+        ship += f"before = {asked_pairs(rng, hatches, doing)}\n"
+    if rng.random() < 0.3:
+        ship += f"not_before = {releases(rng, hatches, doing, False)}\n"
     bay = rng.choice((1, 1, 2))
     for name in ("C1", "C2", "C3")[:rng.choice((1, 2, 2, 2, 3))]:
         late = f"ready = {rng.randint(1, 25)}\n" if rng.random() < 0.4 else ""
         ship += f'\n[[crane]]\nname = "{name}"\nbay = {bay}\n{late}'
         bay += rng.randint(3, 4)
-    doing = rng.sample([(hatch, phase) for hatch in hatches for phase in ("DD", "DH", "LH", "LD")], rng.randint(2, 5))
     rows, off = ["id,move,cell,length"], []
     for hatch, phase in sorted(doing, key=lambda one: one[1][0] == "L"):
         for i in range(rng.randint(1, 3)):
@@ -410,7 +446,8 @@ def slowed(plan, rng):
 # ---------------------------------------------------------------- logs of what happens
 
 SPOILT = (b"tick 0", b"tick 01", b"tick 1000000000", b"tick", b"tick  3", b" tick 3", b"tick 3 ", b"tick -1", b"done", b"done ",
-          b"done 9999-DD", b"done 2-DD x", b"stop", b"", b"tick 3\r", b"DONE 2-DD")
+          b"done 9999-DD", b"done 2-DD x", b"left 2-DD 0", b"left 2-DD 05", b"left 2-DD  5", b"left 2-DD 1000000000", b"left 9999-DD 5",
+          b"left 2-DD", b"left 5", b"left  2-DD 5", b"left 2-DD 5 ", b"left 2-DD 5 6", b"left 2-DD -5", b"left 2-DD 999999999", b"stop", b"", b"tick 3\r", b"DONE 2-DD")
 
 
 def happenings(rng, inst, plan):
@@ -423,8 +460,12 @@ def happenings(rng, inst, plan):
             j = rng.choice(running)
             lines.append(f"done {inst.tasks[j].name}".encode())
             course.done(j)
+        elif running and rng.random() < 0.2:
+            j, ticks = rng.choice(running), rng.choice((1, 5, rng.randint(1, 60), 999_999_999))
+            lines.append(f"left {inst.tasks[j].name} {ticks}".encode())
+            course.told_left(j, ticks)
         elif plan and rng.random() < 0.02:
-            lines.append(f"done {rng.choice(inst.tasks).name}".encode())
+            lines.append(f"{rng.choice(('done', 'left'))} {rng.choice(inst.tasks).name}".encode())
         else:
             due = [course.start[j] + inst.tasks[j].ticks - course.now for j in running]
             ticks = max(1, rng.choice(due + [1, 2, 5, 30, rng.randint(1, 90)]) + rng.choice((0, 0, 0, 1, -1)))

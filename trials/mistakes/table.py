@@ -54,6 +54,8 @@ COVER = "a whole number from 0 to 10000, the ticks for the hatch cover"
 RESTOWS = '"free" or "ordered"'
 BEFORE = ("at most 240 pairs of tasks in brackets, as [[\"2-DD\", \"6-DD\"]], of which the first ends before the "
           "second starts")
+NOT_BEFORE = ("at most 240 pairs of a task and a tick from 0 to 1000000 in brackets, as [[\"2-DD\", 600]], before which "
+              "it doesn't start")
 APART = "at most 100 pairs of hatches in brackets, as [[20, 24]]"
 CRANE = "1 to 8 cranes, each below a line [[crane]] of its own"
 NAME = '1 to 12 letters from A to Z or a to z, digits, - and _ between double quotes, as "STS-1"'
@@ -70,7 +72,7 @@ LENGTH = ("or the bay where the container stands; odd bays are of 20 feet and ev
           "written 40")
 TICK = "it is a tick in 1 to 12 digits, without a leading 0"
 LINE = "a line is TIME NAME PLACE, as 10 C1 5"
-REPORT = "a line is tick N or done TASK, as done 2-DD"
+REPORT = "a line is tick N, done TASK or left TASK N, as done 2-DD"
 ORDER = "SHIP, STOW, PLAN and TREE stand in this order, and this file was named as"
 OF_OTHERS = "qc: a tree belongs to its ship file and its list: where one of them changed, plan again"
 SEMICOLONS = "semicolons stand between the columns: save the table with commas between them"
@@ -360,6 +362,27 @@ MISTAKES = [
          "BadShip Ring before 2",
          ["qc: ship.toml, line 4: by pair 2 of before 2-DD ends before 6-DD starts, and by the pairs ahead of it, phases of a "
           "hatch and ordered restows 6-DD ends before 2-DD starts"], base="first"),
+    ship("a release of a phase that there is not", [("margin = 1\n", 'margin = 1\nnot_before = [["2-DX", 5]]\n')], "BadShip Task not_before 1",
+         ['qc: ship.toml, line 4: entry 1 of not_before names "2-DX"; a task is a number of hatches, - and DD, DH, LH or LD, as '
+          '"2-DD"'], base="first"),
+    ship("a release ahead of the work", [("margin = 1\n", 'margin = 1\nnot_before = [["2-DD", 5], ["6-DD", -1]]\n')],
+         "BadShip Range not_before 2",
+         ["qc: ship.toml, line 4: entry 2 of not_before gives 6-DD the tick -1; it may be a whole number from 0 to 1000000"],
+         base="first"),
+    ship("two releases of one task", [("margin = 1\n", 'margin = 1\nnot_before = [["2-DD", 5], ["6-DD", 0], ["2-DD", 6]]\n')],
+         "BadShip TaskTwice not_before 3",
+         ["qc: ship.toml, line 4: entry 3 of not_before names 2-DD, as entry 1 does; a task has one tick"], base="first"),
+    ship("a release of a hatch", [("margin = 1\n", "margin = 1\nnot_before = [[2, 5]]\n")], "BadShip WrongKind not_before 1",
+         ["qc: ship.toml, line 4: element 1 of not_before can't stand there; not_before may be " + NOT_BEFORE], base="first"),
+    ship("a release without brackets of its own", [("margin = 1\n", 'margin = 1\nnot_before = ["2-DD", 5]\n')],
+         "BadShip WrongKind not_before 1",
+         ["qc: ship.toml, line 4: element 1 of not_before can't stand there; not_before may be " + NOT_BEFORE], base="first"),
+    ship("a release of a task without a move", [("margin = 1\n", 'margin = 1\nnot_before = [["2-LD", 5]]\n')], "task 2-DD 1 20",
+         ["qc: note: ship.toml, line 4: entry 1 of not_before, 2-LD, says nothing: the list has no move of it"],
+         base="first", status=0),
+    ship("a start ahead of the release", [("margin = 1\n", 'margin = 1\nnot_before = [["6-DD", 40]]\n')], "Broken Ready 6-DD",
+         ["qc: plan.csv, line 3, record 3: 6-DD starts at 21, and by not_before at no earlier tick than 40: 6-DD may start at "
+          "40, and ends at 50 then"], base="first", words=SHOW, status=13),
     ship("before a task without a move", [("margin = 1\n", 'margin = 1\nbefore = [["6-DD", "2-LD"]]\n')], "task 2-DD 1 20",
          ["qc: note: ship.toml, line 4: pair 1 of before, 6-DD and 2-LD, says nothing: the list has no move of one of them"],
          base="first", status=0),
@@ -637,7 +660,7 @@ MISTAKES = [
            ['qc: happened.txt, line 1: "tick 0": ticks are counted in digits, from 1 to 999999999 and without a leading 0; '
             + REPORT]),
     course("another word", [("done 2-DD\n", "end 2-DD\n")], "BadLog Line 2",
-           ['qc: happened.txt, line 2: "end 2-DD": the first word is tick or done; ' + REPORT]),
+           ['qc: happened.txt, line 2: "end 2-DD": the first word is tick, done or left; ' + REPORT]),
     course("no line feed behind the last tick", ("cut", 1), "BadLog Line 3",
            ['qc: happened.txt, line 3: "tick 2": no line feed ends it: the log was cut off, or its last line has none; '
             + REPORT]),
@@ -645,6 +668,16 @@ MISTAKES = [
            ['qc: happened.txt, line 2: "2-LH" is no task of this ship and list; qc tasks tells their names']),
     course("a task that is done twice", [("tick 2\n", "done 2-DD\n")], "BadLog NotRunning 3",
            ['qc: happened.txt, line 3: "2-DD" doesn\'t run then: a task is done once, and after its start was told']),
+    course("no ticks that a task needs still", [("done 2-DD\n", "left 2-DD\n")], "BadLog Line 2",
+           ['qc: happened.txt, line 2: "left 2-DD": behind left stand a task and a number of ticks, with one space between words '
+            'and none besides; ' + REPORT]),
+    course("a task that needs nothing more", [("done 2-DD\n", "left 2-DD 0\n")], "BadLog Line 2",
+           ['qc: happened.txt, line 2: "left 2-DD 0": ticks are counted in digits, from 1 to 999999999 and without a leading 0; '
+            + REPORT]),
+    course("what a task needs that is done", [("tick 2\n", "left 2-DD 3\n")], "BadLog NotRunning 3",
+           ['qc: happened.txt, line 3: "2-DD" doesn\'t run then: what it still needs is told after its start and before its '
+            'end']),
+    course("a task that needs longer", "tick 5\nleft 2-DD 30\n", "start 2-DD C1 0", [], status=0),
     # ---- what cranes wait for by the log; of restows 2-DD and 14-DD are apart, and 10-LD is too near to 14-DD
     course("a crane that may begin soon", "tick 20\ndone 2-DD\n", "start 2-DD C1 0",
            ["qc: note: C1 may begin 6-DD at tick 21"], status=0),

@@ -1,7 +1,7 @@
 -- What the definitions of nodes give on examples that are worked out by hand. Tasks and cranes are counted from 0, and
 -- decisions are newest first. Hatches 2, 6, 10 and 14 are at bays 1 to 4; travel takes 1 tick a bay. With a margin of 1
 -- cranes k places apart keep 2 k bays between them; where bays are missing, one goes clear of the other by as many ticks.
-use Rattle.std.proofs.Common.{◌≡◌, ℕ, ◌+◌, pos, true, false, List, [], ◌∷◌, codes, None, Some, is_some, inl, inr, refl, sym, ap, ◌∙◌}
+use Rattle.std.proofs.Common.{◌≡◌, ℕ, ◌+◌, pos, true, false, List, [], ◌∷◌, codes, None, Some, is_some, inl, inr, refl, sym, ap, ◌∙◌, arith}
 use Rattle.std.proofs.lemmas.Bool.{false≢true}
 use Rattle.qc_model.specs.declared.decision.Decision.{Decision}
 use Rattle.qc_model.specs.declared.decision.Decision.TheVariants.{Assign, Order}
@@ -11,7 +11,13 @@ use Rattle.qc_model.specs.declared.task.Phase.TheVariants.{DeckOut, HoldOut}
 use Rattle.qc_model.specs.declared.task.Task.{Task}
 use Rattle.qc_model.specs.declared.crane.Crane.{Crane}
 use Rattle.qc_model.specs.declared.pair.Pair.{Pair}
-use Rattle.qc_model.specs.Instance.{InstanceView, bay_of, ticks_of, crane, pair_of}
+use Rattle.qc_model.specs.declared.schedule.Slot.{Slot}
+use Rattle.qc_model.specs.Closed.{grain}
+use Rattle.qc_model.specs.Instance.{InstanceView, bay_of, ticks_of, release_of, crane, pair_of}
+use Rattle.qc_model.specs.Leaves.{leaf_value, chain, packed}
+use Rattle.qc_model.specs.Leaves as leaves
+use Rattle.qc_model.specs.Rules.{KeepsReady}
+use Rattle.qc_num.specs.declared.bound.Bound.TheVariants.{Least}
 use Rattle.qc_model.specs.Nodes.{IsSettled, assigned, forced, free, head, reaches}
 use Rattle.qc_model.specs.OneWay.{mirror}
 use Rattle.qc_model.specs.Ticks.{task_distance, travel_between}
@@ -35,7 +41,7 @@ abbrev c3 : Crane
 c3 = at (codes "C3") 5
 
 abbrev work : ℕ → Phase → ℕ → ℕ → Task
-work hatch phase bay ticks = record { hatch = hatch; phase = phase; bay = pos bay; ticks = ticks }
+work hatch phase bay ticks = record { hatch = hatch; phase = phase; bay = pos bay; ticks = ticks; release = 0 }
 
 abbrev deck : ℕ → ℕ → ℕ → Task
 deck hatch bay ticks = work hatch DeckOut bay ticks
@@ -95,6 +101,30 @@ to_1 = plan (reaching (codes "C1") 0 1 1 1 ∷ []) near.tasks
 
 abbrev from_2 : InstanceView
 from_2 = plan (reaching (codes "C1") 0 1 2 4 ∷ []) near.tasks
+
+-- the same task, held back until a tick
+abbrev held : ℕ → Task → Task
+held tick t = record t { release = tick }
+
+-- tasks at bays 1 and 2 of 20 and 10 ticks, and the first crane alone; they are held back until these ticks
+abbrev waiting : ℕ → ℕ → InstanceView
+waiting one other = plan (c1 ∷ []) (held one (deck 2 1 20) ∷ held other (deck 6 2 10) ∷ [])
+
+-- the second of these held back until 50, with the crane that doesn't reach it
+abbrev out_of_reach : InstanceView
+out_of_reach = record to_1 { tasks = (waiting 0 50).tasks }
+
+-- the task at bay 3 between late cranes, held back until a tick
+abbrev held_late : ℕ → InstanceView
+held_late tick = record late { tasks = held tick (deck 10 3 10) ∷ [] }
+
+-- a task at bay 1 of 10 ticks, held back until a tick, and the first crane alone, with travel of 10 ticks a bay
+abbrev slow : ℕ → InstanceView
+slow tick = record (plan (c1 ∷ []) (held tick (deck 2 1 10) ∷ [])) { travel = 10 }
+
+-- a start on the first crane
+abbrev on_first : ℕ → Slot
+on_first start = record { crane = 0; start = start }
 
 -- both tasks have the crane of their number, or the other one
 abbrev straight : List Decision
@@ -215,6 +245,45 @@ mirror-of-three-cranes = (refl, refl, refl, refl, refl, refl)
 -- A task at bay 4; the pair speaks of numbers, which stay.
 mirror-with-an-apart-pair : (bay_of (mirror split) 1 ≡ pos 1) × (mirror (mirror split) ≡ split)
 mirror-with-an-apart-pair = (refl, refl)
+
+-- ---- tasks that are held back
+
+-- The way of 1 bay takes 1 tick; held back until 50 the task begins no earlier, whether it has its crane or not.
+starts-when-released : (free (waiting 0 50) 0 0 ≡ 0) × (free (waiting 0 50) 1 0 ≡ 50) × (head (waiting 0 50) [] 1 ≡ 50)
+    × (head (waiting 0 50) (Assign 1 0 ∷ []) 1 ≡ 50)
+starts-when-released = (refl, refl, refl, refl)
+
+-- The other task is held back until 7: a start at 6 is too early, and one at 7 is not. The second is held back until no tick,
+-- but the crane comes to it at 1.
+ready-when-released : (¬ KeepsReady (waiting 7 0) (on_first 6 ∷ on_first 27 ∷ []) 0)
+    × KeepsReady (waiting 7 0) (on_first 7 ∷ on_first 28 ∷ []) 0
+    × (¬ KeepsReady (waiting 7 0) (on_first 7 ∷ on_first 0 ∷ []) 1)
+    × KeepsReady (waiting 7 0) (on_first 7 ∷ on_first 1 ∷ []) 1
+ready-when-released = (λ r. absurd (omega (arith, r.0)), (omega arith, omega arith), λ r. absurd (omega (arith, r.1)), (omega arith, omega arith))
+
+-- Of the tick of the task and that at which both cranes can be there, 101, the later counts.
+later-of-both : (free (held_late 50) 0 0 ≡ 101) × (free (held_late 50) 0 1 ≡ 101) × (free (held_late 200) 0 0 ≡ 200)
+    × (free (held_late 200) 0 1 ≡ 200) × (head (held_late 200) [] 0 ≡ 200)
+later-of-both = (refl, refl, refl, refl, refl)
+
+-- While no crane reaches a task no head counts, however long it is held back.
+released-out-of-reach : (head out_of_reach [] 1 ≡ 0) × (head out_of_reach (Assign 1 0 ∷ []) 1 ≡ 50)
+released-out-of-reach = (refl, refl)
+
+-- From the other end of the ship a task is held back as long.
+mirror-of-a-release : (release_of (mirror (waiting 7 50)) 0 ≡ 7) × (release_of (mirror (waiting 7 50)) 1 ≡ 50)
+    × (bay_of (mirror (waiting 7 50)) 1 ≡ pos 3) × (mirror (mirror (waiting 7 50)) ≡ waiting 7 50)
+mirror-of-a-release = (refl, refl, refl, refl)
+
+-- Travel of 10 ticks a bay and a task of 10: all ticks are multiples of 10, of 5 with a release of 5, and of 1 with one of 3.
+grain-with-a-release : (grain (slow 0) ≡ 10) × (grain (slow 20) ≡ 10) × (grain (slow 5) ≡ 5) × (grain (slow 3) ≡ 1)
+grain-with-a-release = (refl, refl, refl, refl)
+
+-- Held back until 3 it ends at 13, by a chain of one task and packed by itself. The count of time sees its 10 ticks alone.
+leaves-with-a-release : (leaf_value (slow 3) [] (chain (0 ∷ [])) ≡ Some (Least 13))
+    × (leaf_value (slow 3) [] (packed (0 ∷ [])) ≡ Some (Least 13))
+    × (leaf_value (slow 3) [] (leaves.work 10) ≡ Some (Least 10)) × (leaf_value (slow 3) [] (leaves.work 11) ≡ None)
+leaves-with-a-release = (refl, refl, refl, refl)
 
 -- ---- rings over pairs
 

@@ -6,7 +6,7 @@ pub use Rattle.qc_model.specs.Closed.{IsClosedBound, Try, along, are_multiples, 
 pub use Rattle.qc_model.specs.Closing.{IsClosable, IsWorkBound, IsWorkLate, complete, ends_late, no_starts, out_of_reach, work_late}
 pub use Rattle.qc_model.specs.Early.{are_met, early, early_by, is_in_reach, least_starts, let_by, put_off, starts_after}
 pub use Rattle.qc_model.specs.Frames.{GoesBy, frame, frame_of, own, turn_bays, turn_high}
-pub use Rattle.qc_model.specs.Instance.{InstanceView, IsApart, IsFrom, IsOnRail, Valid, bay_of, crane, no_crane, no_task, pair_of, task, ticks_of}
+pub use Rattle.qc_model.specs.Instance.{InstanceView, IsApart, IsFrom, IsOnRail, Valid, bay_of, crane, no_crane, no_task, pair_of, release_of, task, ticks_of}
 pub use Rattle.qc_model.specs.Judge.{Goes, IsDirection, IsJudgeable}
 pub use Rattle.qc_model.specs.Leaves.{Leaf, are_tasks, chain, chain_end, chain_ticks, is_out_of_reach, is_ring, leaf_value, packed, packed_end, reach, ring, work, work_over}
 pub use Rattle.qc_model.specs.Motion.{bay_ahead, bay_behind, scaled}

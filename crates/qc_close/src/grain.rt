@@ -33,6 +33,17 @@ fn with_tasks(start: Tick, tasks: &[Task]) -> Tick
     grain
 }
 
+/// The same of a number and the ticks until which tasks are held back.
+fn with_releases(start: Tick, tasks: &[Task]) -> Tick
+    ensures { IsGrainOf start (λ i. (slice_index_or tasks.now i no_task).release) (length tasks.now) result }
+{
+    let mut grain = start;
+    for task in tasks {
+        grain = gcd(grain, task.release);
+    }
+    grain
+}
+
 /// The same of a number and the ticks at which cranes are ready.
 fn with_cranes(start: Tick, cranes: &[Crane]) -> Tick
     ensures { IsGrainOf start (λ i. (slice_index_or cranes.now i no_crane).ready) (length cranes.now) result }
@@ -48,5 +59,6 @@ fn with_cranes(start: Tick, cranes: &[Crane]) -> Tick
 pub(crate) fn grain(inst: &Instance) -> Tick
     ensures { result ≡ grain inst.now }
 {
-    with_cranes(with_tasks(inst.travel(), inst.tasks()), inst.cranes())
+    let tasks = inst.tasks();
+    with_cranes(with_releases(with_tasks(inst.travel(), tasks), tasks), inst.cranes())
 }

@@ -1,17 +1,17 @@
 -- A log is followed in one way only: where all lines are followed none has a fault.
-use Rattle.std.proofs.Common.{◌≡◌, ℕ, ◌+◌, inl, inr, ◌++◌, List, [], ◌∷◌, map, slice_set, refl, ap, sym, subst, ◌∙◌}
+use Rattle.std.proofs.Common.{◌≡◌, ℕ, ◌+◌, inl, inr, ◌++◌, List, [], ◌∷◌, map, slice_set, Option, refl, ap, sym, subst, ◌∙◌}
 use Rattle.std.proofs.lemmas.Bool.{cases_order}
 use Rattle.qc_dispatch.specs.declared.event.Event.{Event}
 use Rattle.qc_dispatch.specs.declared.fault.DispatchFault.{DispatchFault}
 use Rattle.qc_dispatch.specs.declared.fault.DispatchKind.{DispatchKind}
+use Rattle.qc_dispatch.specs.declared.follow.Remaining.{Remaining}
 use Rattle.qc_dispatch.specs.declared.grant.Grant.{Grant}
 use Rattle.qc_dispatch.specs.declared.report.Report.{Report}
-use Rattle.qc_dispatch.specs.declared.report.Report.TheVariants.{Passed, Done}
+use Rattle.qc_dispatch.specs.declared.report.Report.TheVariants.{Passed, Done, Left}
 use Rattle.qc_dispatch.specs.declared.stage.Stage.TheVariants.{Running, Ended}
 use Rattle.qc_dispatch.specs.Course.{Course, IsEnded, IsGranted, MayStart, started}
 use Rattle.qc_dispatch.specs.Events.{finished_event, started_event}
-use Rattle.qc_dispatch.specs.Journal.{Follows, Goes, HasFault, HasFirstFault, IsFaulty, IsFollowed, Journal, TakesAll, TakesLine, TookEnd, WentOn, blank}
-use Rattle.qc_dispatch.specs.Following.{IsIdle}
+use Rattle.qc_dispatch.specs.Journal.{Follows, Goes, HasFault, HasFirstFault, IsFaulty, IsFollowed, IsIdle, Journal, TakesAll, TakesLine, TookEnd, WentOn, blank}
 use Rattle.qc_dispatch.specs.Log.{report_in}
 use Rattle.qc_dispatch.proofs.LogLemmas.{good_line, same_report}
 use Rattle.qc_lines.specs.Lines.{lines_of}
@@ -53,17 +53,19 @@ one_way (g ∷ gs) (h ∷ hs) old a b to p q =
     let rest = one_way gs hs q.0 a b to (subst (λ (c : Course). Goes c to gs a) same p.2) q.2 in
     (ap (λ (k : Grant). k ∷ gs) e ∙ ap (λ (ks : List Grant). h ∷ ks) rest.0, rest.1)
 
-same_journal : (a b : Journal) → a.course ≡ b.course → a.events ≡ b.events → a ≡ b
-same_journal a b course events =
-    let first : Course → Journal = λ c. record { course = c; events = a.events } in
-    let second : List Event → Journal = λ es. record { course = b.course; events = es } in
-    ap first course ∙ ap second events
+same_journal : (a b : Journal) → a.course ≡ b.course → a.events ≡ b.events → a.remaining ≡ b.remaining → a ≡ b
+same_journal a b course events remaining =
+    let first : Course → Journal = λ c. record { course = c; events = a.events; remaining = a.remaining } in
+    let second : List Event → Journal = λ es. record { course = b.course; events = es; remaining = a.remaining } in
+    let third : List (Option Remaining) → Journal = λ rs. record { course = b.course; events = b.events; remaining = rs } in
+    ap first course ∙ ap second events ∙ ap third remaining
 
 went_one : (old a b : Journal) (to : ℕ) → WentOn old to a → WentOn old to b → a ≡ b
 went_one old a b to p q =
     let same = one_way p.grants q.grants old.course a.course b.course to p.goes q.goes in
     same_journal a b same.1
     (p.events ∙ ap (λ (gs : List Grant). old.events ++ map (started_event old.course.inst) gs) same.0 ∙ sym q.events)
+    (p.remaining ∙ sym q.remaining)
 
 -- ---- lines
 
@@ -78,21 +80,23 @@ ended_one old a b task p q =
 took_one : (old a b : Journal) (task : ℕ) → TookEnd old task a → TookEnd old task b → a ≡ b
 took_one old a b task p q =
     let e = ended_one old.course p.after q.after task p.ended q.ended in
-    let begun : Course → Journal = λ c. record { course = c; events = old.events ++ finished_event c.inst task c.clock ∷ [] } in
+    let begun : Course → Journal = λ c. record old { course = c; events = old.events ++ finished_event c.inst task c.clock ∷ [] } in
     went_one (begun q.after) a b q.after.clock (subst (λ (c : Course). WentOn (begun c) c.clock a) e p.went) q.went
 
 follows_one : (old a b : Journal) (report : Report) → Follows old report a → Follows old report b → a ≡ b
 follows_one old a b (Passed ticks) p q = went_one old a b (old.course.clock + ticks) p q
 follows_one old a b (Done task) p q = took_one old a b task p q
+follows_one old a b (Left task ticks) p q = p.after ∙ sym q.after
 
 takes_one : (old a b : Journal) (before : ℕ) (line : List ℕ) → TakesLine old before line a → TakesLine old before line b → a ≡ b
 takes_one old a b before line p q =
     let e = same_report (report_in old.course.inst line) p.report q.report p.read q.read in
     follows_one old a b q.report (subst (λ (r : Report). Follows old r a) e p.follows) q.follows
 
-follows_not_idle : (old a : Journal) (report : Report) → Follows old report a → ¬ IsIdle old report
+follows_not_idle : (old a : Journal) (report : Report) → Follows old report a → ¬ IsIdle old.course report
 follows_not_idle old a (Passed ticks) went idle = idle
 follows_not_idle old a (Done task) took idle = idle took.ended.start took.ended.ran
+follows_not_idle old a (Left task ticks) took idle = idle took.start took.runs
 
 no_fault : (old a : Journal) (before : ℕ) (line : List ℕ) (why : DispatchKind) → TakesLine old before line a → HasFault old before line why → ⊥
 no_fault old a before line why takes fault =

@@ -16,7 +16,7 @@ use Rattle.qc_dispatch.proofs.Counts.{none_in}
 use Rattle.qc_model.specs.declared.schedule.Slot.{Slot}
 use Rattle.qc_model.specs.declared.task.Task.{Task}
 use Rattle.qc_model.specs.Bays.{bays_between}
-use Rattle.qc_model.specs.Instance.{InstanceView, Valid, IsApart, IsBefore, bay_of, no_task, task, ticks_of}
+use Rattle.qc_model.specs.Instance.{InstanceView, Valid, IsApart, IsBefore, bay_of, no_task, release_of, task, ticks_of}
 use Rattle.qc_model.specs.Nodes.{berth_wait}
 use Rattle.qc_model.specs.Rules.{Feasible, IsClear, KeepsBerth, crane_of, end_of, no_slot, slot_distance, start_of}
 use Rattle.qc_model.specs.Ticks.{arrival, berth_clear, berth_distance, distance, travel_between}
@@ -79,6 +79,12 @@ module _ (c : Course) (tasks : List Task) (sched : List Slot) (valid : Valid c.i
 
   free_by : (j : ℕ) → j < length c.inst.tasks → free_of c.inst c.plan j ≤ start_of sched j
   free_by j low = no_sooner (start_at c j) (start_of sched j) (free_of c.inst c.plan j) (w.starts j low) (keeps.starts j)
+
+  release_same : (j : ℕ) → j < length c.inst.tasks → release_of real j ≡ release_of c.inst j
+  release_same j low = ap (λ (t : Task). t.release) (w.same j low)
+
+  release_kept : (j : ℕ) → j < length c.inst.tasks → release_of real j ≤ start_of sched j
+  release_kept j low = omega (arith, release_same j low, free_by j low)
 
   free_kept : (j : ℕ) (low : j < length c.inst.tasks) → arrival c.inst (crane_of c.plan j) (bay_of c.inst j) ≤ start_of sched j
   free_kept j low = omega (arith, free_by j low)
@@ -147,7 +153,7 @@ module _ (c : Course) (tasks : List Task) (sched : List Slot) (valid : Valid c.i
     all_tasks = w.slots_count ∙ sym w.tasks_count;
     crane_range = λ j low. subst (λ (k : ℕ). k < length c.inst.cranes) (sym (w.cranes j (lower low))) (plan.crane_range j (lower low));
     reach = λ j low. rw (w.cranes j (lower low), bay_same j (lower low)) (plan.reach j (lower low));
-    ready = λ j low. rw (w.cranes j (lower low), bay_same j (lower low)) (free_kept j (lower low));
+    ready = λ j low. (release_kept j (lower low), rw (w.cranes j (lower low), bay_same j (lower low)) (free_kept j (lower low)));
     travel = λ i j first second differ same. travel_kept i j (lower first) (lower second) differ same;
     before = λ i j first second is. before_kept i j (lower first) (lower second) is;
     apart = λ i j first second is. apart_kept i j (lower first) (lower second) is;

@@ -1,42 +1,36 @@
 -- public: what a log that is followed comes to.
-use Rattle.std.specs.Prelude.{◌≡◌, ◌≢◌, ℕ, ◌+◌, ◌<◌, ◌≤◌, ◌⊎◌, List, [], ◌∷◌, length, Result, Ok, Err, ⊤}
+use Rattle.std.specs.Prelude.{◌≡◌, ℕ, ◌+◌, ◌<◌, ◌≤◌, ◌⊎◌, List, [], ◌∷◌, length, Result, Ok, Err, ⊤}
 use Rattle.qc_dispatch.specs.declared.fault.DispatchFault.{DispatchFault}
 use Rattle.qc_dispatch.specs.declared.fault.DispatchKind.{DispatchKind}
 use Rattle.qc_dispatch.specs.declared.follow.Followed.{Followed}
 use Rattle.qc_dispatch.specs.declared.follow.Refused.{Refused}
 use Rattle.qc_dispatch.specs.declared.follow.Refused.TheVariants as refused
 use Rattle.qc_dispatch.specs.declared.report.Report.{Report}
-use Rattle.qc_dispatch.specs.declared.report.Report.TheVariants.{Passed, Done}
-use Rattle.qc_dispatch.specs.declared.stage.Stage.TheVariants.{Running}
-use Rattle.qc_dispatch.specs.Course.{stage_of}
-use Rattle.qc_dispatch.specs.Journal.{Follows, HasFault, HasFirstFault, IsFaulty, IsFollowed, Journal, TakesAll, TakesLine}
+use Rattle.qc_dispatch.specs.declared.report.Report.TheVariants.{Passed, Done, Left}
+use Rattle.qc_dispatch.specs.Journal.{Follows, HasFault, HasFirstFault, IsFaulty, IsFollowed, IsIdle, Journal, TakesAll, TakesLine}
 use Rattle.qc_model.specs.declared.schedule.Slot.{Slot}
 use Rattle.qc_model.specs.Instance.{InstanceView}
 use Rattle.qc_num.specs.declared.read_error.ReadError.{ReadError}
 use Rattle.qc_num.specs.declared.read_error.ReadError.TheVariants.{Fault, OutOfMemory}
 
 abbrev pub journal_of : Followed → Journal
-journal_of f = record { course = f.dispatch; events = f.events.items }
+journal_of f = record { course = f.dispatch; events = f.events.items; remaining = f.remaining.items }
 
 -- the most ticks of one line
 abbrev pub most_passed : ℕ
 most_passed = 999999999
 
--- a report of at most nine digits, or of a task of the instance
+-- a report of at most nine digits, and of a task of the instance
 abbrev pub IsShort : InstanceView → Report → Type 0
 IsShort inst (Passed ticks) = ticks ≤ most_passed
 IsShort inst (Done task) = task < length inst.tasks
-
--- the report is of a task that doesn't run
-abbrev pub IsIdle : Journal → Report → Type 0
-IsIdle old (Passed ticks) = ⊥
-IsIdle old (Done task) = (start : ℕ) → stage_of old.course task ≢ Running start
+IsShort inst (Left task ticks) = (task < length inst.tasks) × (ticks ≤ most_passed)
 
 -- a report was followed, or the task that it names doesn't run; memory is asked for only where that isn't so
 abbrev pub IsTaken : {T : Type 0} → Journal → Report → Result T Refused → Journal → Type 0
 IsTaken old report (Ok taken) new = Follows old report new
-IsTaken old report (Err refused.OutOfMemory) new = ¬ IsIdle old report
-IsTaken old report (Err refused.NotRunning) new = IsIdle old report
+IsTaken old report (Err refused.OutOfMemory) new = ¬ IsIdle old.course report
+IsTaken old report (Err refused.NotRunning) new = IsIdle old.course report
 
 -- the line has no fault
 abbrev pub IsGood : Journal → (before : ℕ) → List ℕ → Type 0

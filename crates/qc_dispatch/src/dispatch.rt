@@ -4,7 +4,7 @@ ghost use Rattle.std.specs.Prelude.{◌≡◌, ◌<◌, ◌≤◌, IfNone, IfOk,
 ghost use Rattle.qc_model.specs.Rules.{Feasible};
 ghost use Rattle.qc_dispatch.specs.declared.stage.Stage.TheVariants.{Waiting};
 ghost use Rattle.qc_dispatch.specs.Calls.{Call, Reaches, opening};
-ghost use Rattle.qc_dispatch.specs.Course.{Course, IsAdvanced, IsQuiet, IsReported, MayFrom, WaitsFor, end_at, left, past_moments, running, start_at};
+ghost use Rattle.qc_dispatch.specs.Course.{Course, IsAdvanced, IsQuiet, IsReported, MayFrom, WaitsFor, end_at, is_running, left, past_moments, running, stage_of, start_at};
 ghost use Rattle.qc_dispatch.specs.Promises.{GoesOn, Keeps};
 ghost use Rattle.qc_dispatch.specs.Kept.{ComesBy};
 ghost use Rattle.qc_dispatch.specs.Marks.{AreMarks};
@@ -246,6 +246,14 @@ impl Dispatch {
         ensures { result ≡ end_at self.now task }
     {
         self.stages[task as usize].end()
+    }
+
+    /// Whether a task runs: it has a start and no end.
+    pub(crate) fn runs(&self, task: u16) -> bool
+        requires { task < length self.now.inst.tasks }
+        ensures { result ≡ is_running (stage_of self.now task) }
+    {
+        self.stages[task as usize].is_running()
     }
 
     /// When a task may start if nothing is reported before; `None` exactly where it has a start or waits for another.

@@ -1,4 +1,4 @@
-//! What may be wrong with a log of ticks and of tasks that are done.
+//! What may be wrong with a log of ticks, of tasks that are done, and of what tasks need still.
 
 ghost use Rattle.std.specs.Prelude.{◌≡◌, ◌≤◌, length};
 
@@ -9,7 +9,7 @@ use qc_num::ReadError;
 pub enum DispatchKind {
     /// There are more than 100,000 lines; told of the first one too many.
     TooMany,
-    /// The line is neither `tick N` nor `done TASK` with a line feed behind.
+    /// The line is none of `tick N`, `done TASK` and `left TASK N`, with a line feed behind.
     Line,
     /// No task has the name.
     UnknownTask,

@@ -1,10 +1,11 @@
 //! Following a log, line by line.
 
-ghost use Rattle.std.specs.Prelude.{◌≡◌, ◌+◌, ◌*◌, ◌<◌, ◌≤◌, IfOk};
+ghost use Rattle.std.specs.Prelude.{◌≡◌, ◌+◌, ◌*◌, ◌<◌, ◌≤◌, IfOk, None, length, replicate};
 ghost use Rattle.qc_lines.specs.Lines.{lines_of};
 ghost use Rattle.qc_model.specs.Instance.{Valid};
+ghost use Rattle.qc_model.specs.Numbers.{most_tasks};
 ghost use Rattle.qc_model.specs.Rules.{Feasible};
-ghost use Rattle.qc_dispatch.specs.declared.report.Report.TheVariants.{Passed, Done};
+ghost use Rattle.qc_dispatch.specs.declared.report.Report.TheVariants.{Passed, Done, Left};
 ghost use Rattle.qc_dispatch.specs.Course.{IsQuiet, past_moments};
 ghost use Rattle.qc_dispatch.specs.Following.{AreTaken, IsFollowing, IsLineTaken, IsShort, IsTaken, journal_of, most_passed};
 ghost use Rattle.qc_dispatch.specs.Journal.{WentOn, blank};
@@ -17,12 +18,21 @@ use crate::fault::{DispatchError, DispatchFault, DispatchKind};
 use crate::grant::NotRunning;
 use crate::report::{Report, report_in};
 use qc_lines::next_line;
-use qc_model::{Instance, Schedule};
+use qc_model::{Instance, MOST_TASKS, Schedule};
 use qc_num::{OutOfMemory, Tick};
 use std::alloc::Global;
 
 /// The most lines of a log.
 const MOST_LINES: usize = 100_000;
+
+/// What a task that runs was reported to need still.
+#[derive(Clone, Copy, PartialEq, Eq)]
+pub struct Remaining {
+    /// So many ticks from then on, at least 1.
+    pub ticks: Tick,
+    /// The tick at which it was reported.
+    pub at: Tick,
+}
 
 /// A dispatcher that was told a log, and what happened.
 #[derive(Drop)]
@@ -30,6 +40,8 @@ pub struct Followed {
     pub dispatch: Dispatch,
     /// In the order in which they happened.
     pub events: Vec<Event>,
+    /// For each task, by its number, what it was last reported to need still.
+    pub remaining: Vec<Option<Remaining>>,
 }
 
 /// Why a report wasn't followed.
@@ -56,6 +68,7 @@ impl Followed {
         requires by { to < past_moments }
         ensures went { IfOk result (λ _. WentOn (journal_of self.old) to (journal_of self.new)) }
         ensures quiet { IfOk result (λ _. IsQuiet self.new.dispatch) }
+        ensures remaining { self.new.remaining.items ≡ self.old.remaining.items }
         ensures clock { IfOk result (λ _. self.new.dispatch.clock ≡ to) }
     {
         while let Some(grant) = self.dispatch.advance(to) {
@@ -65,12 +78,31 @@ impl Followed {
         Ok(())
     }
 
+    /// A task that runs needs so many ticks more.
+    fn note(&mut self, task: u16, ticks: Tick) -> Result<(), Refused>
+        requires quiet { IsQuiet self.old.dispatch }
+        requires short { IsShort self.old.dispatch.inst (Left task ticks) }
+        requires room { length self.old.remaining.items ≡ most_tasks }
+        ensures taken { IsTaken (journal_of self.old) (Left task ticks) result (journal_of self.new) }
+        ensures quiet { IfOk result (λ _. IsQuiet self.new.dispatch) }
+        ensures room { IfOk result (λ _. length self.new.remaining.items ≡ most_tasks) }
+        ensures clock { IfOk result (λ _. self.new.dispatch.clock ≡ self.old.dispatch.clock) }
+    {
+        if !self.dispatch.runs(task) {
+            return Err(Refused::NotRunning);
+        }
+        let at = self.dispatch.now();
+        self.remaining[task as usize] = Some(Remaining { ticks, at });
+        Ok(())
+    }
+
     /// A task is done.
     fn finish(&mut self, task: u16) -> Result<(), Refused>
         requires quiet { IsQuiet self.old.dispatch }
         requires inside { IsShort self.old.dispatch.inst (Done task) }
         ensures taken { IsTaken (journal_of self.old) (Done task) result (journal_of self.new) }
         ensures quiet { IfOk result (λ _. IsQuiet self.new.dispatch) }
+        ensures remaining { self.new.remaining.items ≡ self.old.remaining.items }
         ensures clock { IfOk result (λ _. self.new.dispatch.clock ≡ self.old.dispatch.clock) }
     {
         match self.dispatch.done(task) {
@@ -95,6 +127,7 @@ impl Followed {
         requires early { self.old.dispatch.clock + ticks < past_moments }
         ensures taken { IsTaken (journal_of self.old) (Passed ticks) result (journal_of self.new) }
         ensures quiet { IfOk result (λ _. IsQuiet self.new.dispatch) }
+        ensures remaining { self.new.remaining.items ≡ self.old.remaining.items }
         ensures clock { IfOk result (λ _. self.new.dispatch.clock ≡ self.old.dispatch.clock + ticks) }
     {
         let to = self.dispatch.now() + ticks;
@@ -109,13 +142,16 @@ impl Followed {
         requires quiet { IsQuiet self.old.dispatch }
         requires short { IsShort self.old.dispatch.inst report }
         requires early { self.old.dispatch.clock + most_passed < past_moments }
+        requires room { length self.old.remaining.items ≡ most_tasks }
         ensures taken { IsTaken (journal_of self.old) report result (journal_of self.new) }
         ensures quiet { IfOk result (λ _. IsQuiet self.new.dispatch) }
+        ensures room { IfOk result (λ _. length self.new.remaining.items ≡ most_tasks) }
         ensures clock { IfOk result (λ _. self.new.dispatch.clock ≤ self.old.dispatch.clock + most_passed) }
     {
         match report {
             Report::Passed(ticks) => self.pass(ticks),
             Report::Done(task) => self.finish(task),
+            Report::Left(task, ticks) => self.note(task, ticks),
         }
     }
 
@@ -124,8 +160,10 @@ impl Followed {
         requires quiet { IsQuiet self.old.dispatch }
         requires few { before ≤ most_lines }
         requires early { self.old.dispatch.clock ≤ most_passed * before }
+        requires room { length self.old.remaining.items ≡ most_tasks }
         ensures taken { IsLineTaken (journal_of self.old) before line.now result (journal_of self.new) }
         ensures quiet { IfOk result (λ _. IsQuiet self.new.dispatch) }
+        ensures room { IfOk result (λ _. length self.new.remaining.items ≡ most_tasks) }
         ensures early { IfOk result (λ _. self.new.dispatch.clock ≤ most_passed * (before + 1)) }
     {
         if before == MOST_LINES {
@@ -149,6 +187,7 @@ impl Followed {
     fn take_all(&mut self, text: &[u8]) -> Result<(), DispatchError>
         requires quiet { IsQuiet self.old.dispatch }
         requires early { self.old.dispatch.clock ≡ 0 }
+        requires room { length self.old.remaining.items ≡ most_tasks }
         ensures { AreTaken (journal_of self.old) (lines_of text.now) result (journal_of self.new) }
     {
         let mut rest = text;
@@ -163,16 +202,27 @@ impl Followed {
     }
 }
 
+/// Nothing was reported of any task.
+fn none_told(alloc: Global) -> Result<Vec<Option<Remaining>>, OutOfMemory>
+    ensures { IfOk result (λ v. v.items ≡ replicate most_tasks None) }
+{
+    let remaining = Vec::from_slice(alloc, &[None; MOST_TASKS as usize])?;
+    Ok(remaining)
+}
+
 /// A dispatcher that was told nothing yet; what may start at once does.
 fn begin(alloc: Global, inst: &Instance, plan: &Schedule) -> Result<Followed, OutOfMemory>
     requires { Feasible inst.now plan.now }
     ensures begins { IfOk result (λ f. WentOn (blank inst.now plan.now) 0 (journal_of f)) }
     ensures quiet { IfOk result (λ f. IsQuiet f.dispatch) }
+    ensures room { IfOk result (λ f. length f.remaining.items ≡ most_tasks) }
     ensures clock { IfOk result (λ f. f.dispatch.clock ≡ 0) }
 {
+    let remaining = none_told(alloc)?;
     let mut followed = Followed {
         dispatch: Dispatch::open(alloc, inst, plan)?,
         events: Vec::new(alloc),
+        remaining,
     };
     followed.go(0)?;
     Ok(followed)

@@ -3,7 +3,8 @@
 //!
 //! Each start comes at the first moment at which the rules allow it, over every list of calls
 //! (`Dispatch::open`, `advance`, `done`). `follow_log` gives what comes of a log, or the fault of
-//! its first faulty line; `waits_for` what an idle crane waits for. Once all tasks have ended the
+//! its first faulty line, and what each task that runs was last reported to need still; `waits_for` what an idle
+//! crane waits for. Once all tasks have ended the
 //! work was a feasible schedule of the lengths that they took (`work_is_feasible`). Which task of a plan
 //! leads which, and by how long, `lead_marks` and `gap` tell.
 #![tactic(auto)]
@@ -24,7 +25,7 @@ mod waits;
 pub use dispatch::Dispatch;
 pub use event::Event;
 pub use fault::{DispatchError, DispatchFault, DispatchKind};
-pub use follow::{Followed, follow_log};
+pub use follow::{Followed, Remaining, follow_log};
 pub use grant::{Grant, NotRunning};
 pub use order::{cell, gap, lead_marks};
 pub use report::Report;

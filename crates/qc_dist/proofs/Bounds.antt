@@ -6,7 +6,8 @@ use Rattle.std.proofs.Math.ListN.{get_or-eq_default}
 use Rattle.std.proofs.lemmas.List.Sums.{sum_by-cons}
 use Rattle.qc_model.specs.declared.task.Task.{Task}
 use Rattle.qc_model.specs.declared.direction.Direction.TheVariants.{Up}
-use Rattle.qc_model.specs.Instance.{InstanceView, Valid, IsOnRail, bay_of, ticks_of, no_task}
+use Rattle.qc_model.specs.Instance.{InstanceView, Valid, IsOnRail, bay_of, release_of, ticks_of, no_task}
+use Rattle.qc_model.specs.Numbers.{most_ready}
 use Rattle.qc_model.specs.Work.{ticks_over}
 use Rattle.qc_model.proofs.OnRail.{task_on_rail, ticks_bounded}
 
@@ -24,6 +25,14 @@ few_ticks inst v j = elim (cases_lt j (length inst.tasks)) [
   | inl inside ↦ ticks_bounded inst v j inside
   | inr past ↦
       let e : ticks_of inst j ≡ 0 = ap (λ (t : Task). t.ticks) (get_or-eq_default inst.tasks no_task past) in
+      omega arith
+]
+
+pub few_release : (inst : InstanceView) → Valid inst → (j : ℕ) → release_of inst j ≤ most_ready
+few_release inst v j = elim (cases_lt j (length inst.tasks)) [
+  | inl inside ↦ v.tasks.releases j inside
+  | inr past ↦
+      let e : release_of inst j ≡ 0 = ap (λ (t : Task). t.release) (get_or-eq_default inst.tasks no_task past) in
       omega arith
 ]
 

@@ -5,7 +5,7 @@ use Rattle.qc_dist.specs.declared.heads.Heads.{Heads}
 use Rattle.qc_model.specs.Instance.{InstanceView}
 use Rattle.qc_model.specs.Nodes.{free, head}
 
--- when each crane can first be at task j, with all berths clear
+-- when each crane can first begin task j, with all berths clear
 pub record IsFreeRow (inst : InstanceView) (j : ℕ) (row : List ℕ) : Type 0 where
   pub count : length inst.cranes ≤ length row
   pub values : (k : ℕ) → k < length inst.cranes

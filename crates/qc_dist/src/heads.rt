@@ -1,4 +1,4 @@
-//! Release times of tasks, for every task and crane: computed once for an instance.
+//! When tasks can start at the least, with every crane: computed once for an instance.
 
 ghost use Rattle.std.specs.Prelude.{◌≡◌, ◌+◌, ◌<◌, ◌≤◌, None, length, min, IfOk};
 ghost use Rattle.std.specs.Option.{option_map_or};
@@ -43,7 +43,7 @@ fn least_head(inst: &Instance, j: u16) -> Tick
     least.unwrap_or(0)
 }
 
-/// When each crane can first be at task `j`.
+/// When each crane can first begin task `j`.
 fn free_row(inst: &Instance, j: u16) -> [Tick; MOST_CRANES as usize]
     requires { j < length inst.now.tasks }
     ensures { IsFreeRow inst.now j result }

@@ -108,15 +108,15 @@ fn berth_wait(inst: &Instance, j: u16, k: u16, v: u16) -> Tick
     if clear == 0 { 0 } else { post.ready + clear }
 }
 
-/// When crane `k` can first be at task `j`: it is ready and comes from its start bay, and each
-/// other crane has left its own where that is too near.
+/// When crane `k` can first begin task `j`: the task is held back no longer, the crane is ready and
+/// comes from its start bay, and each other crane has left its own where that is too near.
 pub fn head(inst: &Instance, j: u16, k: u16) -> Tick
     requires task { j < length inst.now.tasks }
     requires crane { k < length inst.now.cranes }
     ensures ticks { result ≡ free inst.now j k }
     ensures bound { result ≤ MOST_READY + MOST_DISTANCE }
 {
-    let mut tick = arrival(inst, j, k);
+    let mut tick = inst.task(j).release.max(arrival(inst, j, k));
     for v in 0..inst.crane_count() {
         tick = tick.max(berth_wait(inst, j, k, v));
     }

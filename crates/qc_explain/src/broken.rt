@@ -153,8 +153,30 @@ fn say_reach(page: &mut Page, task: &Doing<'_>) {
     }
 }
 
-/// Says when a crane can be at a task.
+/// When a task's crane can be there.
+fn arrival(task: &Doing<'_>) -> Tick {
+    let bays = Tick::from(task.crane.bay.abs_diff(task.bay()));
+    task.crane
+        .ready
+        .saturating_add(travel(task.inst, bays))
+}
+
+/// Says when a task may start that is held back, and whose crane can be there by then.
+fn say_release(page: &mut Page, task: &Doing<'_>) {
+    page.on(task.place)
+        .text(task.name())
+        .text(" starts at ")
+        .count(task.start)
+        .text(", and by not_before at no earlier tick than ")
+        .count(task.release());
+    task.end_with_start(page, task.release())
+}
+
+/// Says when a crane can be at a task, or until when the task is held back, whichever is later.
 fn say_ready(page: &mut Page, task: &Doing<'_>) {
+    if arrival(task) < task.release() {
+        return say_release(page, task);
+    }
     let ready = task.crane.ready;
     page.on(task.place)
         .text(task.name())

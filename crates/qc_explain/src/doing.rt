@@ -96,6 +96,11 @@ impl<'a> Doing<'a> {
         self.start.saturating_add(self.task.ticks)
     }
 
+    /// The tick before which it doesn't start.
+    pub(crate) fn release(&self) -> Tick {
+        self.task.release
+    }
+
     /// The name of the crane that does it.
     pub(crate) fn crane_name(&self) -> &'a str {
         text_of(self.crane.name.as_bytes())

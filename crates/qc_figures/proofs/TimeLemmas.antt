@@ -239,7 +239,7 @@ module _ (p : PlanView) (k : ℕ) (valid : Valid p.inst) (judgeable : IsJudgeabl
   -- a task begins when the crane is ready, and two of them are clear of each other
   begins : (j : ℕ) → j < length inst.tasks → does sched k j ≡ true → (crane inst k).ready ≤ start_of sched j
   begins j h t =
-      let r = feasible.ready j h in
+      let r = (feasible.ready j h).1 in
       subst (λ (v : ℕ). (crane inst v).ready ≤ start_of sched j) (on_crane j t) (omega (arith, r))
 
   clear_tasks : (i j : ℕ) → i < j → j < length inst.tasks → does sched k i ≡ true → does sched k j ≡ true

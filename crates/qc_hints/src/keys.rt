@@ -3,7 +3,7 @@
 use qc_ship::Key;
 
 /// The keys of the ship.
-pub(crate) const SHIP_KEYS: [&str; 12] = [
+pub(crate) const SHIP_KEYS: [&str; 13] = [
     "hatches",
     "places",
     "margin",
@@ -15,6 +15,7 @@ pub(crate) const SHIP_KEYS: [&str; 12] = [
     "restows",
     "apart",
     "before",
+    "not_before",
     "crane",
 ];
 

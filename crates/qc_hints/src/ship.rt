@@ -5,6 +5,7 @@ use crate::keys::{is_known, is_of_crane};
 use crate::not_toml::say_not_toml;
 use crate::order::{say_no_task, say_ring, say_same};
 use crate::ordinals::ordinal;
+use crate::releases::{say_late, say_task_twice, say_unknown_task};
 use crate::toml_lines::KeyLine;
 use qc_num::OutOfMemory;
 use qc_page::{Page, Place, Sort, has_digit, is_near, say_form};
@@ -30,13 +31,18 @@ fn say_fault(page: &mut Page, facts: &Facts<'_>, fault: ShipFault) {
         ShipKind::NotToml => {}
         ShipKind::Missing => say_missing(page, facts, fault),
         ShipKind::WrongKind => say_value(page, facts, fault),
+        ShipKind::Range if fault.key == Key::NotBefore && fault.number > 0 =>
+            say_late(page, facts, fault.number),
         ShipKind::Range => say_value(page, facts, fault),
         ShipKind::HatchOrder => say_hatch_order(page, facts, fault),
         ShipKind::CraneOrder => say_crane_order(page, facts, fault.number),
         ShipKind::NameTwice => say_name_twice(page, facts, fault.number),
         ShipKind::Apart => say_apart(page, facts, fault.number),
+        ShipKind::Task if fault.key == Key::NotBefore =>
+            say_unknown_task(page, facts, fault.number),
         ShipKind::Task => say_no_task(page, facts, fault.number),
         ShipKind::Same => say_same(page, facts, fault.number),
+        ShipKind::TaskTwice => say_task_twice(page, facts, fault.number),
         ShipKind::Ring => say_ring(page, facts, fault.number),
     }
 }

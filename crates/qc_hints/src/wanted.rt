@@ -23,6 +23,8 @@ pub(crate) fn wanted_at(key: Key, in_decimetres: bool) -> &'static str {
         Key::Apart => "at most 100 pairs of hatches in brackets, as [[20, 24]]",
         Key::Before =>
             "at most 240 pairs of tasks in brackets, as [[\"2-DD\", \"6-DD\"]], of which the first ends before the second starts",
+        Key::NotBefore =>
+            "at most 240 pairs of a task and a tick from 0 to 1000000 in brackets, as [[\"2-DD\", 600]], before which it doesn't start",
         Key::Crane => "1 to 8 cranes, each below a line [[crane]] of its own",
         Key::Name =>
             "1 to 12 letters from A to Z or a to z, digits, - and _ between double quotes, as \"STS-1\"",

@@ -48,10 +48,10 @@ module _ (inst : InstanceView) (turn : Turn) (w : ℕ) where
 
 -- ---- starts of a feasible schedule
 
--- a task starts no earlier than its crane can be there
+-- a task starts no earlier than it may and its crane can be there
 free_start : (inst : InstanceView) (sched : List Slot) → Feasible inst sched → (j : ℕ) → j < length inst.tasks
     → free inst j (crane_of sched j) ≤ start_of sched j
-free_start inst sched f j low = omega (arith, f.ready j low, berths)
+free_start inst sched f j low = omega (arith, (f.ready j low).0, (f.ready j low).1, berths)
   where
     waits : (v : ℕ) → v < 0 + length inst.cranes → berth_wait inst j (crane_of sched j) v ≤ start_of sched j
     waits v high =

@@ -9,7 +9,7 @@ use Rattle.std.proofs.lemmas.List.Sums.{count_by-le-length, sum-map, sum_by-cons
 use Rattle.std.proofs.lemmas.Simd.{map-map}
 use Rattle.std.specs.Option.{option_map_or}
 use Rattle.std.specs.List.{range_with_len}
-use Rattle.qc_close.specs.Model.{Direction, Up, Down, Frame, Slot, Turn, Follows, crane_in, no_cranes, IsClosedBound, Try, bays_to, fewest, grain, is_closed, is_short, is_short_along, is_short_before, last_before, left_at, left_bays, leg, legs, load, most, room, try_of, try_with, work_at, all_done, barred_frame, barring, both_done, done_in, lies, own_or_left, soonest, GoesBy, frame, frame_of, own, InstanceView, Valid, bay_of, crane, no_crane, ticks_of, berth_wait, free, greatest, least, crane_of, ends, arrival, berth_clear, berth_distance, crane_numbers, task_numbers, ticks_over, frame_along, longest_way, way_frame, Way}
+use Rattle.qc_close.specs.Model.{Direction, Up, Down, Frame, Slot, Turn, Follows, crane_in, no_cranes, IsClosedBound, Try, bays_to, fewest, grain, is_closed, is_short, is_short_along, is_short_before, last_before, left_at, left_bays, leg, legs, load, most, room, try_of, try_with, work_at, all_done, barred_frame, barring, both_done, done_in, lies, own_or_left, soonest, GoesBy, frame, frame_of, own, InstanceView, Valid, bay_of, crane, no_crane, no_task, release_of, ticks_of, berth_wait, free, greatest, least, crane_of, ends, arrival, berth_clear, berth_distance, crane_numbers, task_numbers, ticks_over, frame_along, longest_way, way_frame, Way}
 use Rattle.qc_close.proofs.CountLemmas.{fewest_le, passing, passing_le, shared, sum_filter, sum_le, sums_within, times_sum, some_term}
 use Rattle.qc_close.proofs.Extremes.{among_done}
 use Rattle.qc_laws.proofs.BarredLemmas.{barred_time}
@@ -377,6 +377,12 @@ module _ (inst : InstanceView) (g : ℕ) (grain : AreMultiples inst g) where
     | inr high ↦ subst (λ c. g ∣ c.ready) (sym (get_or_past inst.cranes w no_crane high)) (dvd-zero g)
   ]
 
+  dvd_release : (j : ℕ) → g ∣ release_of inst j
+  dvd_release j = elim (cases_lt j (length inst.tasks)) [
+    | inl low ↦ grain.releases j low
+    | inr high ↦ subst (λ t. g ∣ t.release) (sym (get_or_past inst.tasks j no_task high)) (dvd-zero g)
+  ]
+
   dvd_gone : (turn : Turn) (w : ℕ) (os : List ℕ) → ((j : ℕ) → Among os j → j < length inst.tasks)
       → g ∣ (frame_of inst turn w os).gone
   dvd_gone turn w [] range = dvd_ready w
@@ -411,7 +417,9 @@ module _ (inst : InstanceView) (g : ℕ) (grain : AreMultiples inst g) where
 
   dvd_free : (j k : ℕ) → g ∣ free inst j k
   dvd_free j k =
-      dvd_max (arrival inst k (bay_of inst j)) _ (dvd-add g (dvd_ready k) (dvd-mul_right_of_dvd g grain.travel _))
+      dvd_max (max (release_of inst j) (arrival inst k (bay_of inst j))) _
+      (dvd_max (release_of inst j) _ (dvd_release j)
+      (dvd-add g (dvd_ready k) (dvd-mul_right_of_dvd g grain.travel _)))
       (dvd_greatest (map (berth_wait inst j k) (range_with_len 0 (length inst.cranes))) (λ n a.
       let r = map_among (berth_wait inst j k) (range_with_len 0 (length inst.cranes)) n a in
       subst (λ (n : ℕ). g ∣ n) r.2 (waits r.0)))

@@ -76,7 +76,7 @@ module _ (inst : InstanceView) (sched : List Slot) (valid : Valid inst) (f : Fea
       (omega arith, eqb-true (crane_of sched j) w t) (λ e. omega arith))
 
   pub arrives : (j : ℕ) → IsOn j → ready + inst.travel * bays_between berth (bay_of inst j) ≤ starts_at j
-  arrives j on = subst (λ (v : ℕ). arrival inst v (bay_of inst j) ≤ start_of sched j) on.1 (f.ready j on.0)
+  arrives j on = subst (λ (v : ℕ). arrival inst v (bay_of inst j) ≤ start_of sched j) on.1 (f.ready j on.0).1
 
   -- what the crane needs for all its tasks, which lie from low to high
   pub record HasTasks (turn : Turn) : Type 0 where

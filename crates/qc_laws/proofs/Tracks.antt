@@ -168,7 +168,7 @@ module _ (inst : InstanceView) (sched : List Slot) (valid : Valid inst) (f : Fea
       where
         comes : (j : ℕ) → IsOn j → (crane inst w).ready ≤ start_of sched j
         comes j on =
-            let there = subst (λ (v : ℕ). arrival inst v (bay_of inst j) ≤ start_of sched j) on.1 (f.ready j on.0) in
+            let there = subst (λ (v : ℕ). arrival inst v (bay_of inst j) ≤ start_of sched j) on.1 (f.ready j on.0).1 in
             omega (arith, there)
 
     -- a crane that goes at all is ready before the end

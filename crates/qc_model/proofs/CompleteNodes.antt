@@ -238,7 +238,7 @@ module _ (inst : InstanceView) (ds : List Decision) (begins : List ℕ) (sched :
     reach = λ j low.
         let both = and_parts _ _ (d.places j low).reach in
         (record { le = true_T both.0 }, record { le = true_T both.1 });
-    ready = λ j low. omega (arith, free_done j low);
+    ready = λ j low. (omega (arith, free_done j low), omega (arith, free_done j low));
     travel = travel;
     before = λ i j low high b. sooner_done i j low high (sooner_before inst ds i j b);
     apart = apart;

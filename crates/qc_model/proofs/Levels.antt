@@ -139,7 +139,7 @@ module _ (inst : InstanceView) (sched : List Slot) (g : Feasible inst sched) whe
   arrives : (j v : ℕ) → j < length inst.tasks → v ≡ crane_of sched j
       → (crane inst v).ready + inst.travel * bays_between (crane inst v).bay (bay_of inst j) ≤ start_of sched j
   arrives j v low same =
-      subst (λ (w : ℕ). arrival inst w (bay_of inst j) ≤ start_of sched j) (sym same) (g.ready j low)
+      subst (λ (w : ℕ). arrival inst w (bay_of inst j) ≤ start_of sched j) (sym same) (g.ready j low).1
 
   leaves_by : (j v : ℕ) → j < length inst.tasks → v ≤ crane_of sched j
       → 0 < inst.travel * bays_up (bay_on inst sched j) (berth_of inst v)

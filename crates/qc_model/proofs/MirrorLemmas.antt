@@ -13,7 +13,7 @@ use Rattle.qc_model.specs.Instance.{InstanceView, HasBayLimits, HasPlaceLimits, 
 use Rattle.qc_model.specs.OneWay.{mirror, mirror_crane, mirror_task}
 use Rattle.qc_model.specs.Seen.{seen}
 use Rattle.qc_model.specs.Tasks.{task_rank}
-use Rattle.qc_model.proofs.SeenLemmas.{seen-bay_of, seen-crane, seen-crane_count, seen-task_count, seen-ticks_of}
+use Rattle.qc_model.proofs.SeenLemmas.{seen-bay_of, seen-crane, seen-crane_count, seen-release_of, seen-task_count, seen-ticks_of}
 
 twice : (n : ℕ) (x : ℤ) → (pos n -ℤ (pos n -ℤ x)) ≡ x
 twice n x = omega (arith, ints)
@@ -62,6 +62,7 @@ tasks_turned inst v = record {
   bays = λ j h. subst (λ (x : ℤ). IsFrom (pos 1) (pos inst.bays) x) (sym (seen-bay_of inst Down j (there j h))) (within inst.bays _ (v.bays j (there j h)));
   ticks = λ j h. omega (arith, seen-ticks_of inst Down j (there j h), v.ticks j (there j h));
   work = omega (arith, same_work inst inst.tasks, v.work);
+  releases = λ j h. omega (arith, seen-release_of inst Down j (there j h), v.releases j (there j h));
   sorted = λ i j low h.
       let hj = there j h in
       omega (arith, v.sorted i j low hj, ap task_rank (mirror-task inst i (omega arith)), ap task_rank (mirror-task inst j hj));

@@ -274,7 +274,7 @@ module _ (inst : InstanceView) (ds : List Decision) (sched : List Slot) (g : Goe
       (assigned_is inst sched ds a i) (assigned_is inst sched ds a j))
 
   free_kept : (j : ℕ) → j < length inst.tasks → free inst j (crane_of sched j) ≤ start_of sched j
-  free_kept j low = omega (arith, feasible.ready j low, berths)
+  free_kept j low = omega (arith, (feasible.ready j low).0, (feasible.ready j low).1, berths)
     where
       waits : (v : ℕ) → v < 0 + length inst.cranes
           → berth_wait inst j (crane_of sched j) v ≤ start_of sched j

@@ -6,7 +6,7 @@ use Rattle.qc_model.specs.declared.direction.Direction.{Direction}
 use Rattle.qc_model.specs.declared.direction.Direction.TheVariants.{Up, Down}
 use Rattle.qc_model.specs.declared.schedule.Slot.{Slot}
 use Rattle.qc_model.specs.declared.task.Task.{Task}
-use Rattle.qc_model.specs.Instance.{InstanceView, no_task, no_crane, bay_of, ticks_of, crane}
+use Rattle.qc_model.specs.Instance.{InstanceView, no_task, no_crane, bay_of, ticks_of, release_of, crane}
 use Rattle.qc_model.specs.Rules.{no_slot, crane_of, ends, last_end, start_of, starts}
 use Rattle.qc_model.specs.OneWay.{mirror, mirror_task, mirror_crane, mirror_slot}
 use Rattle.qc_model.specs.Seen.{seen, seen_schedule, seen_bay, seen_crane, seen_number}
@@ -26,6 +26,10 @@ seen-bay_of inst Down j h = ap (λ t. t.bay) (get_or-map (mirror_task inst) inst
 pub seen-ticks_of : (inst : InstanceView) (way : Direction) (j : ℕ) → j < length inst.tasks → ticks_of (seen inst way) j ≡ ticks_of inst j
 seen-ticks_of inst Up j h = refl
 seen-ticks_of inst Down j h = ap (λ t. t.ticks) (get_or-map (mirror_task inst) inst.tasks j no_task no_task h)
+
+pub seen-release_of : (inst : InstanceView) (way : Direction) (j : ℕ) → j < length inst.tasks → release_of (seen inst way) j ≡ release_of inst j
+seen-release_of inst Up j h = refl
+seen-release_of inst Down j h = ap (λ t. t.release) (get_or-map (mirror_task inst) inst.tasks j no_task no_task h)
 
 pub seen-crane_of : (inst : InstanceView) (sched : List Slot) (way : Direction) (j : ℕ) → j < length sched → crane_of (seen_schedule inst sched way) j ≡ seen_number inst way (crane_of sched j)
 seen-crane_of inst sched Up j h = refl

@@ -26,6 +26,7 @@ valid_turn inst turn v = record {
     bays = v.tasks.bays;
     ticks = v.tasks.ticks;
     work = v.tasks.work;
+    releases = v.tasks.releases;
     sorted = v.tasks.sorted;
     hatches = v.tasks.hatches;
   };

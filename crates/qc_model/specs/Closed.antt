@@ -111,11 +111,11 @@ is_served t = list_any (λ ns. list_any (has_room t ns) (numbers t Down)) (numbe
 abbrev pub is_short : Try → Bool
 is_short t = list_any (λ f. f.works && nat_lt t.tick f.gone) t.frames || not (is_served t)
 
--- all ticks of the instance are multiples of this number
+-- all ticks of the instance are multiples of this number: those of a bay, of tasks, of what holds them back, of cranes
 abbrev pub are_multiples : InstanceView → ℕ → Bool
 are_multiples inst g =
     (inst.travel % g == 0) && list_all (λ j. j.ticks % g == 0) inst.tasks
-    && list_all (λ k. k.ready % g == 0) inst.cranes
+    && list_all (λ j. j.release % g == 0) inst.tasks && list_all (λ k. k.ready % g == 0) inst.cranes
 
 -- the greatest such number
 abbrev pub grain : InstanceView → ℕ

@@ -28,7 +28,7 @@ pub record InstanceView : Type 0 where
 
 -- what stands for a task or a crane past the end of its list; no rule speaks of such a one
 abbrev pub no_task : Task
-no_task = record { hatch = 0; phase = DeckOut; bay = pos 0; ticks = 0 }
+no_task = record { hatch = 0; phase = DeckOut; bay = pos 0; ticks = 0; release = 0 }
 
 abbrev pub no_crane : Crane
 no_crane = record { name = []; ready = 0; bay = pos 0; from = pos 0; to = pos 0 }
@@ -45,6 +45,10 @@ bay_of inst j = (task inst j).bay
 
 abbrev pub ticks_of : InstanceView → ℕ → ℕ
 ticks_of inst j = (task inst j).ticks
+
+-- no earlier than this may task j start
+abbrev pub release_of : InstanceView → ℕ → ℕ
+release_of inst j = (task inst j).release
 
 abbrev pub crane : InstanceView → ℕ → Crane
 crane inst k = slice_index_or inst.cranes k no_crane
@@ -100,13 +104,15 @@ pub record HasPlaceLimits (inst : InstanceView) : Type 0 where
   pub gap : (1 ≤ inst.gap) × (inst.gap ≤ most_gap_by_places)
   pub berths : HasBerths inst IsOnRail
 
--- every task stands at a bay of the ship and takes time, all together not too long; tasks are in
--- order of hatch and phase, each once; tasks of one hatch, and of no two, share a bay
+-- every task stands at a bay of the ship and takes time, all together not too long, and none is held
+-- back too long; tasks are in order of hatch and phase, each once; tasks of one hatch, and of no two,
+-- share a bay
 pub record HasValidTasks (inst : InstanceView) : Type 0 where
   pub count : length inst.tasks ≤ most_tasks
   pub bays : (j : ℕ) → j < length inst.tasks → IsFrom (pos 1) (pos inst.bays) (bay_of inst j)
   pub ticks : (j : ℕ) → j < length inst.tasks → 1 ≤ ticks_of inst j
   pub work : sum_by (λ t. t.ticks) inst.tasks ≤ most_work
+  pub releases : (j : ℕ) → j < length inst.tasks → release_of inst j ≤ most_ready
   pub sorted : (i j : ℕ) → i < j → j < length inst.tasks
       → task_rank (task inst i) < task_rank (task inst j)
   pub hatches : (i j : ℕ) → i < length inst.tasks → j < length inst.tasks

@@ -7,7 +7,7 @@ use Rattle.qc_model.specs.declared.decision.Decision.TheVariants.{Assign, Order}
 use Rattle.qc_model.specs.declared.schedule.Slot.{Slot}
 use Rattle.qc_model.specs.declared.turn.Turn.{Turn}
 use Rattle.qc_model.specs.declared.turn.Turn.TheVariants.{OneWay, Free}
-use Rattle.qc_model.specs.Instance.{InstanceView, bay_of, ticks_of, crane, IsApart}
+use Rattle.qc_model.specs.Instance.{InstanceView, bay_of, ticks_of, release_of, crane, IsApart}
 use Rattle.qc_model.specs.Rules.{Feasible, crane_of, start_of, end_of, last_end}
 use Rattle.qc_model.specs.Ticks.{arrival, berth_clear, berth_distance, task_distance, travel_between, climb, lead}
 
@@ -132,10 +132,10 @@ abbrev pub berth_wait : InstanceView → ℕ → ℕ → ℕ → ℕ
 berth_wait inst j k v =
     if berth_distance inst v k (bay_of inst j) == 0 then 0 else berth_clear inst v k (bay_of inst j)
 
--- when crane k can first be at task j, with all berths clear
+-- when crane k can first begin task j: the task is held back no longer, and the crane is there with all berths clear
 abbrev pub free : InstanceView → ℕ → ℕ → ℕ
 free inst j k =
-    max (arrival inst k (bay_of inst j))
+    max (max (release_of inst j) (arrival inst k (bay_of inst j)))
     (greatest (map (berth_wait inst j k) (range_with_len 0 (length inst.cranes))))
 
 -- task j lies within the reach of crane k

@@ -33,7 +33,7 @@ most_gap = 21
 abbrev pub most_gap_by_places : ℕ
 most_gap_by_places = 2000
 
--- the last tick at which a crane may become ready
+-- the last tick at which a crane may become ready, and until which a task may be held back
 abbrev pub most_ready : ℕ
 most_ready = 1000000
 

@@ -2,7 +2,7 @@
 use Rattle.std.specs.Prelude.{◌≡◌, ◌≢◌, ℕ, ◌+◌, ◌<◌, ◌≤◌, ◌≤ℤ◌, ◌⊎◌, List, [], ◌∷◌, length, map, max, slice_index_or}
 use Rattle.qc_model.specs.declared.task.Task.{Task}
 use Rattle.qc_model.specs.declared.schedule.Slot.{Slot}
-use Rattle.qc_model.specs.Instance.{InstanceView, bay_of, ticks_of, crane, IsBefore, IsApart}
+use Rattle.qc_model.specs.Instance.{InstanceView, bay_of, ticks_of, release_of, crane, IsBefore, IsApart}
 use Rattle.qc_model.specs.Ticks.{arrival, berth_clear, berth_distance, task_distance, travel_between}
 
 -- what stands for the slot of a task past the end; no rule speaks of it
@@ -33,9 +33,11 @@ KeepsReach inst sched j =
     let c = crane inst (crane_of sched j) in
     (c.from ≤ℤ bay_of inst j) × (bay_of inst j ≤ℤ c.to)
 
--- Ready: the crane is ready and has come from its start bay
+-- Ready: the task is held back no longer, and the crane is ready and has come from its start bay
 abbrev pub KeepsReady : InstanceView → List Slot → ℕ → Type 0
-KeepsReady inst sched j = arrival inst (crane_of sched j) (bay_of inst j) ≤ start_of sched j
+KeepsReady inst sched j =
+    (release_of inst j ≤ start_of sched j)
+    × (arrival inst (crane_of sched j) (bay_of inst j) ≤ start_of sched j)
 
 -- Travel: between two tasks a crane has the time to go from one to the other
 abbrev pub KeepsTravel : InstanceView → List Slot → ℕ → ℕ → Type 0

@@ -187,6 +187,7 @@ impl Instance {
         ensures on_rail { IsOnRail result.bay }
         ensures some { 1 ≤ result.ticks }
         ensures bound { result.ticks ≤ MOST_WORK }
+        ensures soon { result.release ≤ MOST_READY }
         ensures valid { Valid self.now }
     {
         self.tasks()[number as usize]

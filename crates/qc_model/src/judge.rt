@@ -3,7 +3,7 @@
 
 ghost use Rattle.std.specs.Prelude.{◌≡◌, ◌≤◌, ◌<◌, ◌↔◌, IsTrue, length, MatchOption};
 ghost use Rattle.qc_model.specs.Numbers.{most_distance, most_end, most_ready};
-ghost use Rattle.qc_model.specs.Instance.{bay_of, crane, IsApart, IsBefore, IsOnRail, Valid};
+ghost use Rattle.qc_model.specs.Instance.{bay_of, crane, release_of, IsApart, IsBefore, IsOnRail, Valid};
 ghost use Rattle.qc_model.specs.Motion.{bay_ahead, bay_behind, scaled};
 ghost use Rattle.qc_model.specs.Limits.{IsNearRail, IsPlaceNear};
 ghost use Rattle.qc_model.specs.Judge.{IsJudgedAt, IsJudgeable, FaultIs};
@@ -104,6 +104,14 @@ impl<'a> Judge<'a> {
             start: slot.start,
             end: slot.start + found.ticks,
         }
+    }
+
+    /// No earlier than this may a task start.
+    pub(crate) fn release(&self, task: u16) -> Tick
+        requires { task < length self.now.inst.tasks }
+        ensures { result ≡ release_of self.now.inst task }
+    {
+        self.inst.tasks()[task as usize].release
     }
 
     /// A crane by its number.

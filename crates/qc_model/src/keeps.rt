@@ -49,14 +49,16 @@ impl Judge<'_> {
         post.from <= work.bay && work.bay <= post.to
     }
 
-    /// Whether the task's crane is ready by then and has come from its start bay.
+    /// Whether the task is held back no longer by then, and its crane is ready and has come from its
+    /// start bay.
     fn keeps_ready(&self, task: u16) -> bool
         requires { task < length self.now.inst.tasks }
         ensures { IsTrue result ↔ KeepsReady self.now.inst self.now.sched task }
     {
         let work = self.work(task);
         let post = self.post(work.crane);
-        post.ready + self.travel_between(post.bay, work.bay) <= work.start
+        self.release(task) <= work.start
+            && post.ready + self.travel_between(post.bay, work.bay) <= work.start
     }
 
     /// Whether a crane that does both tasks has the time to go from one to the other.

@@ -29,7 +29,7 @@ pub const MOST_GAP: u16 = 21;
 /// How many decimetres neighbouring cranes are apart at most.
 pub const MOST_GAP_BY_PLACES: u16 = 2_000;
 
-/// The last tick at which a crane may become ready.
+/// The last tick at which a crane may become ready, and until which a task may be held back.
 pub const MOST_READY: Tick = 1_000_000;
 
 /// The most ticks of all tasks together.

@@ -18,7 +18,7 @@ use crate::{Direction, Instance, Pair, Schedule};
 pub enum Rule {
     /// A task lies within the reach of its crane.
     Reach,
-    /// A task's crane is ready, and has come from its start bay.
+    /// A task is held back no longer, and its crane is ready and has come from its start bay.
     Ready,
     /// A crane has the time to go from one of its tasks to the next.
     Travel,

@@ -55,6 +55,8 @@ pub struct Task {
     pub bay: Bay,
     /// How long it takes, in ticks.
     pub ticks: Tick,
+    /// The first tick at which it may start, 0 to 1,000,000.
+    pub release: Tick,
 }
 
 /// The name of a task, as `2-DD`.

@@ -43,9 +43,9 @@ module _ (inst : InstanceView) (plan : List Slot) (valid : Valid inst) (feasible
         ])
   ]
 
-  -- a task starts no earlier than its crane can be there
+  -- a task starts no earlier than it may and its crane can be there
   free_start : (j : ℕ) → j < length inst.tasks → free_of inst plan j ≤ start_of plan j
-  free_start j low = omega (arith, feasible.ready j low, berths)
+  free_start j low = omega (arith, (feasible.ready j low).0, (feasible.ready j low).1, berths)
     where
       waits : (v : ℕ) → v < 0 + length inst.cranes → berth_wait inst j (crane_of plan j) v ≤ start_of plan j
       waits v high =

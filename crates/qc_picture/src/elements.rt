@@ -52,8 +52,8 @@ impl Page {
         self.put(style);
     }
 
-    /// Puts a straight line from one point to another.
-    pub(crate) fn put_line(&mut self, from: (u64, u64), to: (u64, u64), style: &[u8]) {
+    /// Begins a straight line from one point to another, whose style is still to come.
+    pub(crate) fn begin_line(&mut self, from: (u64, u64), to: (u64, u64)) {
         self.put(b"<line x1=\"");
         self.put_number(from.0);
         self.put(b"\" y1=\"");
@@ -63,6 +63,11 @@ impl Page {
         self.put(b"\" y2=\"");
         self.put_number(to.1);
         self.put(b"\" ");
+    }
+
+    /// Puts a straight line from one point to another.
+    pub(crate) fn put_line(&mut self, from: (u64, u64), to: (u64, u64), style: &[u8]) {
+        self.begin_line(from, to);
         self.put(style);
         self.put(b"/>\n");
     }

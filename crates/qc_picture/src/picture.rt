@@ -18,6 +18,7 @@ impl Paper<'_> {
         self.put_ticks(page);
         self.put_bands(page);
         self.put_boxes(page);
+        self.put_releases(page);
     }
 
     /// Puts all from the lines of the cranes on behind the drawing.
@@ -35,8 +36,8 @@ impl Paper<'_> {
 }
 
 /// The drawing of a plan, an SVG: the hatches across with their bays, time down from tick 0 to the end, for
-/// each crane a line through its waypoints in a band of half the gap to each side, a box for each task, and
-/// a table of the figures of each crane.
+/// each crane a line through its waypoints in a band of half the gap to each side, a box for each task, a mark
+/// where a release time makes a crane wait, and a table of the figures of each crane.
 pub fn write_picture(alloc: Global, drawn: &Drawn<'_>) -> Result<Bytes, OutOfMemory>
     requires { IsReady (view_of drawn.now.plan) }
 {

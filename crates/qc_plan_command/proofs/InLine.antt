@@ -6,7 +6,7 @@ use Rattle.std.specs.List.{range_with_len}
 use Rattle.std.proofs.lemmas.Bool.{cases_lt}
 use Rattle.std.proofs.lemmas.List.FromFn.{get_or-map-range_with_len, length-map-range_with_len}
 use Rattle.qc_model.specs.declared.schedule.Slot.{Slot}
-use Rattle.qc_model.specs.Instance.{InstanceView, IsApart, IsBefore, bay_of, crane, ticks_of}
+use Rattle.qc_model.specs.Instance.{InstanceView, IsApart, IsBefore, bay_of, crane, release_of, ticks_of}
 use Rattle.qc_model.specs.Rules.{Feasible, IsClear, crane_of, no_slot, slot_distance, start_of}
 use Rattle.qc_model.specs.Ticks.{arrival, berth_clear, task_distance, travel_between}
 
@@ -49,7 +49,7 @@ module _ (inst : InstanceView) (can : CanLine inst) where
   berth_ticks j v = berth_clear inst v (can.cranes j) (bay_of inst j)
 
   far : ℕ → ℕ
-  far j = ticks_of inst j + arrival inst (can.cranes j) (bay_of inst j)
+  far j = ticks_of inst j + release_of inst j + arrival inst (can.cranes j) (bay_of inst j)
       + most (berth_ticks j) (length inst.cranes)
       + most (pair_ticks j) (length inst.tasks) + most (λ i. pair_ticks i j) (length inst.tasks)
 
@@ -133,7 +133,10 @@ module _ (inst : InstanceView) (can : CanLine inst) where
     all_tasks = length-map-range_with_len slot 0 (length inst.tasks);
     crane_range = λ j low. rw (crane_is j low) (can.range j low);
     reach = λ j low. rw (crane_is j low) (can.reach j low);
-    ready = λ j low. rw (crane_is j low) (omega (arith, late j low, far_le j low));
+    ready = λ j low. (
+      omega (arith, late j low, far_le j low),
+      rw (crane_is j low) (omega (arith, late j low, far_le j low)),
+    );
     travel = λ i j il jl other same.
         clear i j (travel_between inst (bay_of inst i) (bay_of inst j)) il jl other
         (omega (arith, ahead_le i j il jl)) (omega (arith, back_le i j il jl));

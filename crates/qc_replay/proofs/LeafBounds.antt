@@ -5,7 +5,7 @@ use Rattle.std.specs.Option.{option_map_or}
 use Rattle.std.proofs.lemmas.Bool.{and_parts, cond_both, leb-true}
 use Rattle.std.proofs.lemmas.Nat.{mul-le}
 use Rattle.qc_num.specs.declared.bound.Bound.TheVariants.{Least, Never}
-use Rattle.qc_close.specs.Model.{Decision, bays_up, bays_between, InstanceView, Valid, IsOnRail, bay_of, ticks_of, crane, cranes_of, Leaf, are_tasks, chain, chain_end, chain_ticks, is_ring, is_out_of_reach, leaf_value, packed, packed_end, reach, ring, work, work_over, task_numbers, are_met, early, early_by, is_in_reach, let_by, put_off, starts_after, Fits, assigned, berth_wait, crane_ticks, forced, free, head, head_by, is_sooner, least, pair_ticks, reaches, separation, sooner_ticks, pack, arrival, berth_clear, berth_distance, climb, distance, lead, task_distance, travel_between, MOST_BAYS, MOST_DISTANCE, MOST_GAP_BY_PLACES, MOST_READY, MOST_TASKS, MOST_TRAVEL, MOST_WORK, Up, Turn, OneWay, Free}
+use Rattle.qc_close.specs.Model.{Decision, bays_up, bays_between, InstanceView, Valid, IsOnRail, bay_of, release_of, ticks_of, crane, cranes_of, Leaf, are_tasks, chain, chain_end, chain_ticks, is_ring, is_out_of_reach, leaf_value, packed, packed_end, reach, ring, work, work_over, task_numbers, are_met, early, early_by, is_in_reach, let_by, put_off, starts_after, Fits, assigned, berth_wait, crane_ticks, forced, free, head, head_by, is_sooner, least, pair_ticks, reaches, separation, sooner_ticks, pack, arrival, berth_clear, berth_distance, climb, distance, lead, task_distance, travel_between, MOST_BAYS, MOST_DISTANCE, MOST_GAP_BY_PLACES, MOST_READY, MOST_TASKS, MOST_TRAVEL, MOST_WORK, Up, Turn, OneWay, Free}
 use Rattle.qc_model.proofs.Bays.{bays}
 use Rattle.qc_model.proofs.Extremes.{greatest_le}
 use Rattle.qc_model.proofs.LeafLemmas.{joined}
@@ -14,7 +14,7 @@ use Rattle.qc_model.proofs.NodeLemmas.{greater_keeps}
 use Rattle.qc_model.proofs.OnRail.{berth_on_rail}
 use Rattle.qc_close.proofs.LimitLemmas.{closed_soon}
 use Rattle.qc_close.proofs.PackBounds.{cranes_range, pack_few}
-use Rattle.qc_dist.proofs.Bounds.{few_ticks, on_rail}
+use Rattle.qc_dist.proofs.Bounds.{few_release, few_ticks, on_rail}
 use Rattle.qc_dist.proofs.Facts.{assigned_range}
 use Rattle.qc_tree.specs.Lines.{IsValue}
 
@@ -95,7 +95,8 @@ module _ (inst : InstanceView) (valid : Valid inst) where
       let waits =
       greatest_le (berth_wait inst j k) (MOST_READY + MOST_DISTANCE) 0 (length inst.cranes)
       (λ v high. wait_few j k v low (omega arith)) in
-      omega (arith, waits, arrival_few j k low)
+      let release : release_of inst j ≤ MOST_READY = few_release inst valid j in
+      omega (arith, waits, release, arrival_few j k low)
 
   head_by_few : (j : ℕ) (o : Option ℕ) → IfSome o (λ k. k < length inst.cranes)
       → head_by inst j o ≤ MOST_READY + MOST_DISTANCE

@@ -39,14 +39,14 @@ module _ (hatches text : List ℕ) (name : TaskName) where
       by None e = cc e
       by (Some h) e = ap (option_map (λ (n : TaskName). n.hatch)) e
 
-  name_in-hatch : name_in hatches text ≡ Some name → Contains hatches name.hatch
+  pub name_in-hatch : name_in hatches text ≡ Some name → Contains hatches name.hatch
   name_in-hatch e =
       let H = Contains hatches name.hatch in
       from_either H _ (name_in_phase hatches text DeckIn) name e (λ e1.
       from_either H _ (name_in_phase hatches text HoldIn) name e1 (λ e2.
       from_either H _ (name_in_phase hatches text HoldOut) name e2 (at_phase DeckOut) (at_phase HoldOut)) (at_phase HoldIn)) (at_phase DeckIn)
 
-same_names : (a b : TaskName) → a ≡ b → same_name a b ≡ true
+pub same_names : (a b : TaskName) → a ≡ b → same_name a b ≡ true
 same_names a b e = subst (λ (n : TaskName). same_name a n ≡ true) e (grind (arith, nat_tests))
 
 names_in-tells : (hatches : List ℕ) (before : List NamePair) (d : Data) (pair : NamePair) → names_in hatches before d ≡ Ok pair → AreNamesOf hatches pair

@@ -13,14 +13,16 @@ use Rattle.qc_ship.specs.declared.fault.Key.TheVariants as key
 use Rattle.qc_ship.specs.declared.ship.Times.{Times}
 use Rattle.qc_ship.specs.declared.ship.HatchPair.{HatchPair}
 use Rattle.qc_ship.specs.declared.ship.NamePair.{NamePair}
+use Rattle.qc_ship.specs.declared.ship.NameTick.{NameTick}
 use Rattle.qc_ship.specs.Keys.{key_text}
 use Rattle.qc_ship.specs.Ship.{most_gap, most_travel, IsShip}
 use Rattle.qc_ship.specs.ShipValues.{required, number_in, number_at}
-use Rattle.qc_ship.specs.ShipFile.{hatches_at, places_in, places_at, gives_places, gap_at, ordered_at, times_at, apart_at, before_at, cranes_at, ship_with}
+use Rattle.qc_ship.specs.ShipFile.{hatches_at, places_in, places_at, gives_places, gap_at, ordered_at, times_at, apart_at, before_at, cranes_at, not_before_at, ship_with}
 use Rattle.qc_ship.proofs.ShipLaws.{number_in-bounds}
 use Rattle.qc_ship.proofs.HatchLaws.{HasHatches-from, Places-from, HasPairs-from}
 use Rattle.qc_ship.proofs.CraneLaws.{number_or-bounds, Cranes-from}
 use Rattle.qc_ship.proofs.NameLaws.{HasOrder-from}
+use Rattle.qc_ship.proofs.ReleaseLaws.{HasReleases-from}
 
 number_at-bounds : (k : Key) (number low high : ℕ) (ms : Members) (n : ℕ) → number_at k number low high ms ≡ Ok n → (low ≤ n) × (n ≤ high)
 number_at-bounds k number low high ms n e =
@@ -73,15 +75,16 @@ counted_places count ms places e none = at_none (get_member (key_text key.Places
     at_none (Some d) none e = cc
 
 -- parts that were read make a ship
-pub IsShip-from_parts : (ms : Members) (hatches places : List ℕ) (times : Times) (apart : List HatchPair) (before : List NamePair) (cranes : List Crane)
-    → hatches_at ms ≡ Ok hatches → places_at (length hatches) ms ≡ Ok places → times_at ms ≡ Ok times → apart_at hatches ms ≡ Ok apart → before_at hatches ms ≡ Ok before
-    → cranes_at (gives_places ms) times.gap places ms ≡ Ok cranes → IsShip (ship_with (gives_places ms) hatches places times apart before cranes)
-IsShip-from_parts ms hatches places times apart before cranes at_hatches at_places at_times at_apart at_before at_cranes =
+pub IsShip-from_parts : (ms : Members) (hatches places : List ℕ) (times : Times) (apart : List HatchPair) (before : List NamePair) (not_before : List NameTick) (cranes : List Crane)
+    → hatches_at ms ≡ Ok hatches → places_at (length hatches) ms ≡ Ok places → times_at ms ≡ Ok times → apart_at hatches ms ≡ Ok apart → before_at hatches ms ≡ Ok before → not_before_at hatches ms ≡ Ok not_before
+    → cranes_at (gives_places ms) times.gap places ms ≡ Ok cranes → IsShip (ship_with (gives_places ms) hatches places times apart before not_before cranes)
+IsShip-from_parts ms hatches places times apart before not_before cranes at_hatches at_places at_times at_apart at_before at_not_before at_cranes =
     let has = HasHatches-from ms hatches at_hatches in
     let are = Places-from (length hatches) ms places has.count.1 at_places in
     let within = TimesAreIn-from ms times at_times in
     let pairs = HasPairs-from hatches ms apart at_apart in
     let order = HasOrder-from hatches ms before at_before in
+    let releases = HasReleases-from hatches ms not_before at_not_before in
     let along = Cranes-from (gives_places ms) times.gap (length hatches) places ms cranes are has.count.0 at_cranes in
     record {
       hatches = has;
@@ -89,6 +92,7 @@ IsShip-from_parts ms hatches places times apart before cranes at_hatches at_plac
       times = record { gap = within.gap; travel = within.travel; deck_move = within.deck_move; hold_move = within.hold_move; cover = within.cover };
       apart = record { count = pairs.0; hatches = pairs.1 };
       before = record { count = order.0; names = order.1 };
+      not_before = record { count = releases.0; range = releases.1.0; once = releases.1.1 };
       cranes = record {
         count = along.count;
         ready = λ k d inside. (along.each_one k d inside).0;

@@ -20,3 +20,7 @@ most_hatch_pairs = 100
 -- the most pairs of tasks of which the planner says that the first ends before the second starts
 abbrev pub most_name_pairs : ℕ
 most_name_pairs = 240
+
+-- the most tasks of which the planner says before which tick they don't start
+abbrev pub most_name_ticks : ℕ
+most_name_ticks = 240

@@ -4,9 +4,10 @@ use Rattle.std.specs.List.{range_with_len}
 use Rattle.qc_model.specs.declared.crane.Crane.{Crane}
 use Rattle.qc_model.specs.Numbers.{most_cranes, most_gap_by_places, most_hatches, most_place, most_ready, most_travel_by_places}
 use Rattle.qc_model.specs.Numbers as by_bays
-use Rattle.qc_ship.specs.Numbers.{greatest_hatch, most_hatch_pairs, most_move_ticks, most_name_pairs}
+use Rattle.qc_ship.specs.Numbers.{greatest_hatch, most_hatch_pairs, most_move_ticks, most_name_pairs, most_name_ticks}
 use Rattle.qc_ship.specs.declared.ship.HatchPair.{HatchPair}
 use Rattle.qc_ship.specs.declared.ship.NamePair.{NamePair}
+use Rattle.qc_ship.specs.declared.ship.NameTick.{NameTick}
 
 -- what a ship file says; counts, gaps and ticks are naturals
 pub record ShipView : Type 0 where
@@ -28,6 +29,8 @@ pub record ShipView : Type 0 where
   pub apart : List HatchPair
   -- the planner's own order of tasks
   pub before : List NamePair
+  -- the tasks that the planner lets start at no earlier tick than the one that stands with them
+  pub not_before : List NameTick
   -- along the rail
   pub cranes : List Crane
 
@@ -98,6 +101,12 @@ pub record HasOrder (ship : ShipView) : Type 0 where
   pub names : All (λ pair. Contains ship.hatches pair.first.hatch
       × Contains ship.hatches pair.second.hatch × (pair.first ≢ pair.second)) ship.before
 
+-- at most 240 tasks at hatches of the ship, each named once, with ticks of at most 1,000,000
+pub record HasReleases (ship : ShipView) : Type 0 where
+  pub count : length ship.not_before ≤ most_name_ticks
+  pub range : All (λ entry. Contains ship.hatches entry.name.hatch × (entry.tick ≤ most_ready)) ship.not_before
+  pub once : AllPairs (λ entry later. entry.name ≢ later.name) ship.not_before
+
 -- 1 to 8 cranes with different names, each at least the gap behind the one before it, reaching from
 -- the place of a hatch to that of the same or a later one
 pub record HasCranes (ship : ShipView) : Type 0 where
@@ -117,4 +126,5 @@ pub record IsShip (ship : ShipView) : Type 0 where
   pub times : HasTimes ship
   pub apart : HasPairs ship
   pub before : HasOrder ship
+  pub not_before : HasReleases ship
   pub cranes : HasCranes ship

@@ -16,5 +16,6 @@ view_of f = record {
   ordered = f.ordered;
   apart = f.apart.items;
   before = f.before.items;
+  not_before = f.not_before.items;
   cranes = f.cranes.items;
 }

@@ -13,13 +13,14 @@ use Rattle.qc_model.specs.declared.task.Phase.{Phase}
 use Rattle.qc_model.specs.declared.task.Phase.TheVariants.{DeckOut, HoldOut, HoldIn, DeckIn}
 use Rattle.qc_model.specs.Tasks.{phase_rank, phase_text}
 use Rattle.qc_model.specs.Numbers.{most_cranes, most_gap_by_places, most_hatches, most_place, most_ready}
-use Rattle.qc_ship.specs.Numbers.{greatest_hatch, most_hatch_pairs, most_margin, most_move_ticks, most_name_pairs}
+use Rattle.qc_ship.specs.Numbers.{greatest_hatch, most_hatch_pairs, most_margin, most_move_ticks, most_name_pairs, most_name_ticks}
 use Rattle.qc_ship.specs.Keys.{key_text, fault}
 use Rattle.qc_ship.specs.Ship.{ShipView, lowest_bay, highest_bay, most_travel, least_start, greatest_start}
 use Rattle.qc_ship.specs.ShipValues.{Reading, required, integer_in, number_in, number_at, number_or, array_in, text_in, next_number, last}
 use Rattle.qc_ship.specs.declared.ship.Times.{Times}
 use Rattle.qc_ship.specs.declared.ship.HatchPair.{HatchPair}
 use Rattle.qc_ship.specs.declared.ship.NamePair.{NamePair}
+use Rattle.qc_ship.specs.declared.ship.NameTick.{NameTick}
 use Rattle.qc_ship.specs.declared.ship.TaskName.{TaskName}
 use Rattle.qc_ship.specs.declared.fault.Key.TheVariants as key
 use Rattle.qc_ship.specs.declared.fault.ShipKind.TheVariants as kind
@@ -146,6 +147,31 @@ order_in hatches d = do
 abbrev pub before_at : List ℕ → Members → Reading (List NamePair)
 before_at hatches ms = option_map_or (order_in hatches) (get_member (key_text key.Before) ms) (Ok [])
 
+-- an array of a text and an integer, and nothing else
+abbrev pub text_and_integer : Data → Option (List ℕ × ℤ)
+text_and_integer (array (item (string a) (item (integer n) no_items))) = Some (a, n)
+text_and_integer _ = None
+
+-- the name of a task of the ship that no entry before it names, and a tick
+abbrev pub release_in : List ℕ → List NameTick → Data → Reading NameTick
+release_in hatches before d = do
+  parts ← ok_or (text_and_integer d) (fault kind.WrongKind key.NotBefore (next_number before))
+  name ← ok_or (name_in hatches parts.0) (fault kind.Task key.NotBefore (next_number before))
+  tick ← number_in key.NotBefore (next_number before) 0 most_ready (integer parts.1)
+  if list_any (λ earlier. same_name earlier.name name) before
+      then Err (fault kind.TaskTwice key.NotBefore (next_number before))
+      else Ok (record { name = name; tick = tick })
+
+abbrev pub releases_in : List ℕ → Data → Reading (List NameTick)
+releases_in hatches d = do
+  ds ← array_in key.NotBefore 0 most_name_ticks d
+  each (release_in hatches) [] ds
+
+-- the ticks before which tasks don't start
+abbrev pub not_before_at : List ℕ → Members → Reading (List NameTick)
+not_before_at hatches ms =
+    option_map_or (releases_in hatches) (get_member (key_text key.NotBefore) ms) (Ok [])
+
 -- a crane's own table
 abbrev pub table_in : ℕ → Data → Reading Members
 table_in number (table ms) = Ok ms
@@ -219,8 +245,8 @@ times_at ms = do
 
 -- the ship of these parts
 abbrev pub ship_with :
-    Bool → List ℕ → List ℕ → Times → List HatchPair → List NamePair → List Crane → ShipView
-ship_with in_decimetres hatches places times apart before cranes = record {
+    Bool → List ℕ → List ℕ → Times → List HatchPair → List NamePair → List NameTick → List Crane → ShipView
+ship_with in_decimetres hatches places times apart before not_before cranes = record {
   hatches = hatches;
   places = places;
   in_decimetres = in_decimetres;
@@ -232,6 +258,7 @@ ship_with in_decimetres hatches places times apart before cranes = record {
   ordered = times.ordered;
   apart = apart;
   before = before;
+  not_before = not_before;
   cranes = cranes;
 }
 
@@ -243,8 +270,9 @@ ship_of ms = do
   times ← times_at ms
   apart ← apart_at hatches ms
   before ← before_at hatches ms
+  not_before ← not_before_at hatches ms
   cranes ← cranes_at (gives_places ms) times.gap places ms
-  Ok (ship_with (gives_places ms) hatches places times apart before cranes)
+  Ok (ship_with (gives_places ms) hatches places times apart before not_before cranes)
 
 -- the table of a TOML text; bytes that aren't UTF-8 are no such text
 abbrev pub table_of : List ℕ → Option Members

@@ -29,6 +29,8 @@ pub enum ShipKind {
     Task,
     /// Both names of a pair are equal.
     Same,
+    /// An earlier element names the task.
+    TaskTwice,
     /// With this pair some task would have to end before it starts. It takes the stowage list to tell.
     Ring,
 }
@@ -50,6 +52,7 @@ impl ShipKind {
             ShipKind::Apart => "Apart",
             ShipKind::Task => "Task",
             ShipKind::Same => "Same",
+            ShipKind::TaskTwice => "TaskTwice",
             ShipKind::Ring => "Ring",
         }
     }
@@ -71,6 +74,7 @@ pub enum Key {
     Restows,
     Apart,
     Before,
+    NotBefore,
     Crane,
     Name,
     Ready,
@@ -83,7 +87,7 @@ impl Key {
     /// The key as the file has it; empty for the file itself.
     pub fn text(self) -> &'static str
         ensures text { result.now ≡ key_text self }
-        ensures short { length result.now ≤ 9 }
+        ensures short { length result.now ≤ 10 }
     {
         match self {
             Key::Whole => "",
@@ -98,6 +102,7 @@ impl Key {
             Key::Restows => "restows",
             Key::Apart => "apart",
             Key::Before => "before",
+            Key::NotBefore => "not_before",
             Key::Crane => "crane",
             Key::Name => "name",
             Key::Ready => "ready",

@@ -15,11 +15,14 @@ mod limits;
 mod names;
 mod pairs;
 mod reader;
+mod releases;
 mod ship;
 mod values;
 
 pub use cell::{Cell, CellFault, CellText};
 pub use fault::{Key, ShipError, ShipFault, ShipKind};
-pub use limits::{GREATEST_HATCH, MOST_HATCH_PAIRS, MOST_MARGIN, MOST_MOVE_TICKS, MOST_NAME_PAIRS};
+pub use limits::{
+    GREATEST_HATCH, MOST_HATCH_PAIRS, MOST_MARGIN, MOST_MOVE_TICKS, MOST_NAME_PAIRS, MOST_NAME_TICKS,
+};
 pub use reader::read_ship;
-pub use ship::{HatchPair, NamePair, Ship, TaskName, takes};
+pub use ship::{HatchPair, NamePair, NameTick, Ship, TaskName, takes};

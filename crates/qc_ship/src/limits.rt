@@ -14,3 +14,6 @@ pub const MOST_HATCH_PAIRS: usize = 100;
 
 /// The most pairs of tasks of which the planner says that the first ends before the second starts.
 pub const MOST_NAME_PAIRS: usize = 240;
+
+/// The most tasks of which the planner says before which tick they don't start.
+pub const MOST_NAME_TICKS: usize = 240;

@@ -31,6 +31,7 @@ fn is_named(hatch: u16, phase: Phase, text: &str) -> bool
         phase,
         bay: 0,
         ticks: 0,
+        release: 0,
     };
     task.text().as_bytes() == text.as_bytes()
 }
@@ -56,7 +57,7 @@ fn name_in_phase(hatches: &[u16], text: &str, phase: Phase) -> Option<TaskName>
 }
 
 /// The task that a text names, of a hatch of the ship.
-fn name_in(hatches: &[u16], text: &str) -> Option<TaskName>
+pub(crate) fn name_in(hatches: &[u16], text: &str) -> Option<TaskName>
     ensures { result ≡ name_in hatches.now text.now }
 {
     let off_deck = name_in_phase(hatches, text, Phase::DeckOut);
@@ -67,7 +68,7 @@ fn name_in(hatches: &[u16], text: &str) -> Option<TaskName>
 }
 
 /// Whether two names are of one task.
-fn same_name(a: TaskName, b: TaskName) -> bool
+pub(crate) fn same_name(a: TaskName, b: TaskName) -> bool
     ensures { result ≡ same_name a b }
 {
     a.hatch == b.hatch && a.phase.rank() == b.phase.rank()

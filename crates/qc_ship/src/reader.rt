@@ -6,7 +6,7 @@ ghost use Rattle.toml.specs.View.{view, table_view};
 ghost use Rattle.qc_num.specs.Reading.{IsReading};
 ghost use Rattle.qc_ship.specs.Keys.{fault};
 ghost use Rattle.qc_ship.specs.Ship.{most_travel};
-ghost use Rattle.qc_ship.specs.ShipFile.{times_at, hatches_at, places_at, gives_places, gap_at, restows_in, ordered_at, apart_at, before_at, cranes_at, ship_of, table_of, ship_file};
+ghost use Rattle.qc_ship.specs.ShipFile.{times_at, hatches_at, places_at, gives_places, gap_at, restows_in, ordered_at, apart_at, before_at, cranes_at, not_before_at, ship_of, table_of, ship_file};
 ghost use Rattle.qc_ship.specs.declared.fault.Key.TheVariants.{Whole};
 ghost use Rattle.qc_ship.specs.declared.fault.ShipKind.TheVariants.{NotToml};
 
@@ -14,11 +14,12 @@ use crate::cranes::read_cranes;
 use crate::hatches::{read_hatches, read_places};
 use crate::names::read_order;
 use crate::pairs::read_pairs;
+use crate::releases::read_releases;
 use crate::ship::Times;
 use crate::values::{array_in, fault, number_at, number_or, required, text_in, value_at};
 use crate::{
-    HatchPair, Key, MOST_HATCH_PAIRS, MOST_MARGIN, MOST_MOVE_TICKS, MOST_NAME_PAIRS, NamePair,
-    Ship, ShipError, ShipFault, ShipKind,
+    HatchPair, Key, MOST_HATCH_PAIRS, MOST_MARGIN, MOST_MOVE_TICKS, MOST_NAME_PAIRS,
+    MOST_NAME_TICKS, NamePair, NameTick, Ship, ShipError, ShipFault, ShipKind,
 };
 use qc_model::{
     Crane, MOST_CRANES, MOST_GAP_BY_PLACES, MOST_HATCHES, MOST_TRAVEL, MOST_TRAVEL_BY_PLACES,
@@ -172,6 +173,20 @@ fn before_at(alloc: Global, hatches: &[u16], table: &Table) -> Result<Vec<NamePa
     }
 }
 
+/// The ticks before which tasks don't start.
+fn not_before_at(alloc: Global, hatches: &[u16], table: &Table) -> Result<Vec<NameTick>, ShipError>
+    ensures { IsReading (λ v. v.items) (not_before_at hatches.now (table_view table.now)) result }
+{
+    match value_at(table, Key::NotBefore) {
+        Some(value) => read_releases(
+            alloc,
+            hatches,
+            array_in(Key::NotBefore, 0, MOST_NAME_TICKS, value)?,
+        ),
+        None => Ok(Vec::new(alloc)),
+    }
+}
+
 /// The cranes along the rail.
 fn cranes_at(
     alloc: Global,
@@ -200,9 +215,19 @@ fn ship_of(alloc: Global, table: &Table) -> Result<Ship, ShipError>
     let times = times_at(table)?;
     let apart = apart_at(alloc, hatches.as_slice(), table)?;
     let before = before_at(alloc, hatches.as_slice(), table)?;
+    let not_before = not_before_at(alloc, hatches.as_slice(), table)?;
     let in_decimetres = gives_places(table);
     let cranes = cranes_at(alloc, in_decimetres, times.gap, places.as_slice(), table)?;
-    Ok(Ship::of(hatches, places, in_decimetres, times, apart, before, cranes))
+    Ok(Ship::of(
+        hatches,
+        places,
+        in_decimetres,
+        times,
+        apart,
+        before,
+        not_before,
+        cranes,
+    ))
 }
 
 /// Reads a ship file. The fault is the first in the order of the keys.

@@ -30,6 +30,13 @@ pub struct NamePair {
     pub second: TaskName,
 }
 
+/// A task, and the tick before which it doesn't start: at most 1,000,000.
+#[derive(Clone, Copy, PartialEq, Eq)]
+pub struct NameTick {
+    pub name: TaskName,
+    pub tick: Tick,
+}
+
 /// What a ship file says of the ship and its cranes.
 #[derive(Drop)]
 pub struct Ship {
@@ -44,6 +51,7 @@ pub struct Ship {
     ordered: bool,
     apart: Vec<HatchPair>,
     before: Vec<NamePair>,
+    not_before: Vec<NameTick>,
     cranes: Vec<Crane>,
 }
 
@@ -75,12 +83,13 @@ impl Ship {
         times: Times,
         apart: Vec<HatchPair>,
         before: Vec<NamePair>,
+        not_before: Vec<NameTick>,
         cranes: Vec<Crane>,
     ) -> Ship
         requires { IsShip (ship_with in_decimetres hatches.items places.items times
-            apart.items before.items cranes.items) }
+            apart.items before.items not_before.items cranes.items) }
         ensures { result ≡ ship_with in_decimetres hatches.items places.items times
-            apart.items before.items cranes.items }
+            apart.items before.items not_before.items cranes.items }
     {
         Ship {
             hatches,
@@ -94,6 +103,7 @@ impl Ship {
             ordered: times.ordered,
             apart,
             before,
+            not_before,
             cranes,
         }
     }
@@ -189,6 +199,15 @@ impl Ship {
         ensures ship { IsShip self.now }
     {
         self.before.as_slice()
+    }
+
+    /// The tasks that start at no earlier tick than the one that stands with them, as written; each is
+    /// named once.
+    pub fn not_before(&self) -> &[NameTick]
+        ensures not_before { result.now ≡ self.now.not_before }
+        ensures ship { IsShip self.now }
+    {
+        self.not_before.as_slice()
     }
 
     /// The cranes along the rail. The reach of each goes from the place of its first hatch to that

@@ -1,4 +1,4 @@
-//! The grain of time: all lengths, ready times and ways are multiples of it.
+//! The grain of time: all lengths, releases, ready times and ways are multiples of it.
 
 use qc_model::Instance;
 use qc_num::Tick;
@@ -12,12 +12,13 @@ fn common(one: Tick, other: Tick) -> Tick {
     great
 }
 
-/// The greatest number of ticks of which the travel of a bay, all tasks and all ready times are
-/// multiples.
+/// The greatest number of ticks of which the travel of a bay, all tasks, their releases and all
+/// ready times are multiples.
 pub(crate) fn grain(inst: &Instance) -> Tick {
     let mut ticks = inst.travel();
     for task in inst.tasks() {
         ticks = common(task.ticks, ticks);
+        ticks = common(task.release, ticks);
     }
     for crane in inst.cranes() {
         ticks = common(crane.ready, ticks);

@@ -1,25 +1,28 @@
 -- The tasks of a ship keep what the tasks of an instance keep.
-use Rattle.std.proofs.Common.{◌≡◌, ◌⊎◌, ℕ, ◌+◌, ◌*◌, ◌%◌, ◌<◌, ◌≤◌, ◌==◌, Bool, true, false, cond, List, length, refl, sym, ap, inl, inr, ◌∙◌, arith, count_by, sum_by, pos, ◌<ℤ◌, ◌&&◌, nat_eq, nat_le}
+use Rattle.std.proofs.Common.{◌≡◌, ◌⊎◌, ℕ, ◌+◌, ◌*◌, ◌%◌, ◌<◌, ◌≤◌, ◌==◌, Bool, true, false, cond, List, length, refl, sym, ap, inl, inr, ◌∙◌, arith, count_by, sum_by, pos, ◌<ℤ◌, ◌&&◌, nat_eq, nat_le, find, All, Option, None, Some}
 use Rattle.std.specs.List.{flat_map, zip, AllByRecursion as Each}
+use Rattle.std.specs.Option.{option_map_or}
 use Rattle.std.proofs.Math.Bool.{and-false}
 use Rattle.std.proofs.Math.Nat.{mul-le-mul_left}
 use Rattle.std.proofs.lemmas.Bool.{and_parts, cases_Bool}
 use Rattle.std.proofs.lemmas.Bool.Decides.{Decides-eqb, nat_tests}
 use Rattle.std.proofs.lemmas.Int.{ints}
 use Rattle.std.proofs.lemmas.List.Concat.{length-flat_map}
-use Rattle.std.proofs.lemmas.List.Elements.{All-from_recursion}
+use Rattle.std.proofs.lemmas.List.Elements.{All-contains, All-from_recursion}
 use Rattle.std.proofs.lemmas.List.Sums.{sum_by-le, count_by-le-length}
 use Rattle.std.proofs.lemmas.Slice.Zip.{length-zip}
-use Rattle.qc_model.specs.Numbers.{most_tasks}
+use Rattle.qc_model.specs.Numbers.{most_ready, most_tasks}
 use Rattle.qc_model.specs.declared.task.Phase.{Phase}
 use Rattle.qc_model.specs.declared.task.Phase.TheVariants.{DeckOut, HoldOut, HoldIn, DeckIn}
 use Rattle.qc_model.specs.declared.task.Task.{Task}
 use Rattle.qc_model.specs.Tasks.{phase_rank, task_rank}
 use Rattle.qc_ship.specs.Ship.{ShipView, IsShip, HasTimes, takes, lowest_bay, highest_bay}
 use Rattle.qc_ship.specs.Cells.{is_on_deck}
+use Rattle.qc_ship.specs.declared.ship.NameTick.{NameTick}
 use Rattle.qc_ship.specs.declared.ship.TaskName.{TaskName}
+use Rattle.qc_ship.proofs.HatchLaws.{find-Contains}
 use Rattle.qc_stow.specs.declared.row.Row.{Row}
-use Rattle.qc_tasks.specs.InstanceOf.{has_name, is_move_of, moves_at, phase_with, phases, tasks_at, tasks_of, ticks_in}
+use Rattle.qc_tasks.specs.InstanceOf.{has_name, is_move_of, is_name_of, moves_at, phase_with, phases, release_at, tasks_at, tasks_of, ticks_in}
 use Rattle.qc_tasks.specs.Marks.{ShareNoName}
 use Rattle.qc_tasks.specs.Restows.{ShareNoMove}
 use Rattle.qc_tasks.proofs.Lists.{EachPair, each_from, each_weaker, each_flat_map, pair_weaker, pair_flat_map, pair_zip, pairs_from_index, sum_by-flat_map, sum_by-each, count_none, count_one, count_four, pairs_by_index}
@@ -62,12 +65,14 @@ record IsTaskIn (hatch place : ℕ) (phase : Phase) (t : Task) : Type 0 where
   phase_is : t.phase ≡ phase
   bay_is : t.bay ≡ pos place
   ticks : 1 ≤ t.ticks
+  release : t.release ≤ most_ready
 
 -- a task of this hatch
 pub record IsTaskAt (hatch : ℕ × ℕ) (t : Task) : Type 0 where
   pub hatch_is : t.hatch ≡ hatch.0
   pub bay_is : t.bay ≡ pos hatch.1
   pub ticks : 1 ≤ t.ticks
+  pub release : t.release ≤ most_ready
 
 -- the later of two tasks in order
 pub record Follows (t u : Task) : Type 0 where
@@ -79,6 +84,16 @@ some_ticks ship times DeckOut n some = omega (arith, mul-le-mul_left n times.dec
 some_ticks ship times HoldOut n some = omega (arith, mul-le-mul_left n times.hold_move.0)
 some_ticks ship times HoldIn n some = omega (arith, mul-le-mul_left n times.hold_move.0)
 some_ticks ship times DeckIn n some = omega (arith, mul-le-mul_left n times.deck_move.0)
+
+-- no task is held back too long
+soon : (entries : List NameTick) → All (λ entry. entry.tick ≤ most_ready) entries → (hatch : ℕ) (phase : Phase) → release_at entries hatch phase ≤ most_ready
+soon entries all hatch phase = by (find (λ (entry : NameTick). is_name_of hatch phase entry.name) entries) refl
+  where
+    by : (o : Option NameTick) → find (λ (entry : NameTick). is_name_of hatch phase entry.name) entries ≡ o → option_map_or (λ (entry : NameTick). entry.tick) o 0 ≤ most_ready
+    by None e = omega arith
+    by (Some entry) e =
+        All-contains (λ (entry : NameTick). entry.tick ≤ most_ready) entries entry all
+        (find-Contains (λ (entry : NameTick). is_name_of hatch phase entry.name) entries entry e)
 
 few_ticks : (ship : ShipView) → HasTimes ship → (phase : Phase) (n : ℕ) → ticks_in ship phase n ≤ 10000 * n + 10000
 few_ticks ship times DeckOut n = omega (arith, mul-le-mul_left n times.deck_move.1)
@@ -108,7 +123,7 @@ module _ (ship : ShipView) (is : IsShip ship) (rows : List Row) where
   tasks_at_are : (h : ℕ × ℕ) (phase : Phase) → Each (IsTaskIn h.0 h.1 phase) (tasks_at ship rows h.0 h.1 phase)
   tasks_at_are h phase = elim (cases_Bool (nat_eq (moves_at rows h.0 phase) 0)) [
     | inl none ↦ rw none tt
-    | inr some ↦ rw some (record { hatch_is = refl; phase_is = refl; bay_is = refl; ticks = some_ticks ship is.times phase _ (above_zero _ some) }, tt)
+    | inr some ↦ rw some (record { hatch_is = refl; phase_is = refl; bay_is = refl; ticks = some_ticks ship is.times phase _ (above_zero _ some); release = soon ship.not_before (λ k d lt. (is.not_before.range k d lt).1) h.0 phase }, tt)
   ]
 
   one_follows : (h : ℕ × ℕ) (phase : Phase) → EachPair Follows (tasks_at ship rows h.0 h.1 phase)
@@ -133,7 +148,7 @@ module _ (ship : ShipView) (is : IsShip ship) (rows : List Row) where
   hatch_are h =
       each_flat_map (IsTaskAt h) (tasks_at ship rows h.0 h.1) phases
       (each_from (λ p. Each (IsTaskAt h) (tasks_at ship rows h.0 h.1 p)) phases
-      (λ p. each_weaker (IsTaskIn h.0 h.1 p) (IsTaskAt h) (tasks_at ship rows h.0 h.1 p) (λ t it. record { hatch_is = it.hatch_is; bay_is = it.bay_is; ticks = it.ticks }) (tasks_at_are h p)))
+      (λ p. each_weaker (IsTaskIn h.0 h.1 p) (IsTaskAt h) (tasks_at ship rows h.0 h.1 p) (λ t it. record { hatch_is = it.hatch_is; bay_is = it.bay_is; ticks = it.ticks; release = it.release }) (tasks_at_are h p)))
 
   hatch_follow : (h : ℕ × ℕ) → EachPair Follows (flat_map (tasks_at ship rows h.0 h.1) phases)
   hatch_follow h =

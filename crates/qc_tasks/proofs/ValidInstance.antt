@@ -8,7 +8,7 @@ use Rattle.std.proofs.lemmas.Int.{ints}
 use Rattle.std.proofs.lemmas.List.{get_or_default}
 use Rattle.std.proofs.lemmas.List.Elements.{All-contains, All-from_recursion, All-map, recursion_from_All}
 use Rattle.std.proofs.lemmas.List.FromFn.{get_or-range_with_len}
-use Rattle.qc_model.specs.Numbers.{most_gap_by_places, most_hatches, most_place}
+use Rattle.qc_model.specs.Numbers.{most_gap_by_places, most_hatches, most_place, most_ready}
 use Rattle.qc_model.specs.declared.task.Task.{Task}
 use Rattle.qc_model.specs.declared.crane.Crane.{Crane}
 use Rattle.qc_model.specs.declared.pair.Pair.{Pair}
@@ -105,6 +105,12 @@ module _ (ship : ShipView) (is : IsShip ship) (rows : List Row) where
       (each_from (λ h. Each (λ (t : Task). 1 ≤ t.ticks) (flat_map (tasks_at ship rows h.0 h.1) phases)) (zip ship.hatches ship.places)
       (λ h. each_weaker (IsTaskAt h) (λ (t : Task). 1 ≤ t.ticks) (flat_map (tasks_at ship rows h.0 h.1) phases) (λ t it. it.ticks) (hatch_are ship is rows h)))
 
+  tasks_soon : Each (λ (t : Task). t.release ≤ most_ready) (tasks_of ship rows)
+  tasks_soon =
+      each_flat_map (λ (t : Task). t.release ≤ most_ready) (λ h. flat_map (tasks_at ship rows h.0 h.1) phases) (zip ship.hatches ship.places)
+      (each_from (λ h. Each (λ (t : Task). t.release ≤ most_ready) (flat_map (tasks_at ship rows h.0 h.1) phases)) (zip ship.hatches ship.places)
+      (λ h. each_weaker (IsTaskAt h) (λ (t : Task). t.release ≤ most_ready) (flat_map (tasks_at ship rows h.0 h.1) phases) (λ t it. it.release) (hatch_are ship is rows h)))
+
   pub follow : AllPairs Follows (tasks_of ship rows)
   follow = pairs_by_index Follows (tasks_of ship rows) (all_follow ship is rows)
 
@@ -132,6 +138,7 @@ module _ (ship : ShipView) (is : IsShip ship) (rows : List Row) where
     bays = λ j lt. All-from_recursion (λ (t : Task). IsFrom (pos 1) (pos (greatest_place ship)) t.bay) (tasks_of ship rows) tasks_within j no_task lt;
     ticks = λ j lt. All-from_recursion (λ (t : Task). 1 ≤ t.ticks) (tasks_of ship rows) tasks_last j no_task lt;
     work = all_work ship is rows few;
+    releases = λ j lt. All-from_recursion (λ (t : Task). t.release ≤ most_ready) (tasks_of ship rows) tasks_soon j no_task lt;
     sorted = λ i j ij jl. (follow i j no_task ij jl).rank;
     hatches = bays_of_hatches;
   }

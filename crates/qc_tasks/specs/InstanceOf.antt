@@ -1,5 +1,6 @@
 -- public: the instance of a ship and the moves of a stowage list.
-use Rattle.std.specs.Prelude.{ℕ, ◌+◌, ◌*◌, pos, Bool, true, false, ◌&&◌, ◌||◌, ◌==◌, nat_lt, min, max, if◌then◌else◌, List, [], ◌∷◌, length, map, filter, count_by, slice_index_or}
+use Rattle.std.specs.Prelude.{ℕ, ◌+◌, ◌*◌, pos, Bool, true, false, ◌&&◌, ◌||◌, ◌==◌, nat_lt, min, max, if◌then◌else◌, List, [], ◌∷◌, length, map, filter, count_by, slice_index_or, find}
+use Rattle.std.specs.Option.{option_map_or}
 use Rattle.std.specs.List.{list_any, flat_map, range_with_len, zip}
 use Rattle.std.specs.Str.{bytes_eq}
 use Rattle.qc_ship.specs.Cells.{is_on_deck}
@@ -12,6 +13,7 @@ use Rattle.qc_model.specs.declared.turn.Turn.TheVariants.{OneWay}
 use Rattle.qc_model.specs.Instance.{InstanceView, pair_of, no_task}
 use Rattle.qc_ship.specs.declared.ship.HatchPair.{HatchPair}
 use Rattle.qc_ship.specs.declared.ship.NamePair.{NamePair}
+use Rattle.qc_ship.specs.declared.ship.NameTick.{NameTick}
 use Rattle.qc_ship.specs.declared.ship.TaskName.{TaskName}
 use Rattle.qc_ship.specs.Ship.{ShipView, takes, greatest_place}
 use Rattle.qc_stow.specs.Moves.{is_discharge, is_load}
@@ -46,6 +48,15 @@ ticks_in ship HoldOut moves = moves * ship.hold_move + ship.cover
 ticks_in ship HoldIn moves = moves * ship.hold_move + ship.cover
 ticks_in ship DeckIn moves = moves * ship.deck_move
 
+-- the name is that of the task of a hatch and a phase
+abbrev pub is_name_of : ℕ → Phase → TaskName → Bool
+is_name_of hatch phase name = (hatch == name.hatch) && (phase_rank phase == phase_rank name.phase)
+
+-- the tick before which the task of a hatch and a phase doesn't start: that of the entry that names it, else 0
+abbrev pub release_at : List NameTick → ℕ → Phase → ℕ
+release_at entries hatch phase =
+    option_map_or (λ entry. entry.tick) (find (λ entry. is_name_of hatch phase entry.name) entries) 0
+
 -- the task of a hatch and a phase; none where it has no move
 abbrev pub tasks_at : ShipView → List Row → ℕ → ℕ → Phase → List Task
 tasks_at ship rows hatch place phase =
@@ -56,6 +67,7 @@ tasks_at ship rows hatch place phase =
       phase = phase;
       bay = pos place;
       ticks = ticks_in ship phase (moves_at rows hatch phase);
+      release = release_at ship.not_before hatch phase;
     } ∷ []
 
 -- the tasks in order of hatch, then phase
@@ -98,7 +110,7 @@ is_earlier_phase t u = (t.hatch == u.hatch) && nat_lt (phase_rank t.phase) (phas
 
 -- the name is that of the task
 abbrev pub has_name : TaskName → Task → Bool
-has_name name t = (t.hatch == name.hatch) && (phase_rank t.phase == phase_rank name.phase)
+has_name name t = is_name_of t.hatch t.phase name
 
 -- an entry of the planner's own order names these two tasks
 abbrev pub puts_before : Task → Task → NamePair → Bool

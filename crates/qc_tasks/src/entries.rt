@@ -4,6 +4,7 @@ ghost use Rattle.qc_tasks.specs.InstanceOf.{has_name, is_put_before, puts_before
 ghost use Rattle.qc_tasks.specs.Marks.{ShareNoName};
 ghost use Rattle.qc_tasks.specs.Restows.{is_in, is_pair};
 
+use crate::tasks::is_name_of;
 use indexmap::IndexSet;
 use qc_model::Task;
 use qc_num::OutOfMemory;
@@ -13,7 +14,7 @@ use qc_ship::{NamePair, TaskName};
 fn has_name(name: TaskName, task: &Task) -> bool
     ensures { result ≡ has_name name task.now }
 {
-    task.hatch == name.hatch && task.phase.rank() == name.phase.rank()
+    is_name_of(task.hatch, task.phase, name)
 }
 
 /// The number of the task of this name; `None` where it has no move.

@@ -31,8 +31,8 @@ impl From<OutOfMemory> for TasksError {
 }
 
 /// The instance of a ship and its moves: the moves of each hatch and phase are a task, a move that
-/// no hatch takes is in none. An entry of the planner's own order that names a task without a move says
-/// nothing; `Ring` comes exactly where the others, with phases and ordered restows, have a ring.
+/// no hatch takes is in none. An entry of the planner's own order or of release times that names a task
+/// without a move says nothing; `Ring` comes exactly where the others, with phases and ordered restows, have a ring.
 pub fn tasks_of(alloc: Global, ship: &Ship, moves: &Moves) -> Result<Instance, TasksError>
     ensures instance { IfOk result (λ inst. inst ≡ instance_of ship.now moves.now) }
     ensures due { IfOk result (λ inst. tasks_due ship.now moves.now ≡ Ok inst) }

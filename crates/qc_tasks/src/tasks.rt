@@ -1,13 +1,13 @@
 //! The tasks of a ship.
-ghost use Rattle.std.specs.Prelude.{◌≡◌, ◌≤◌, ◌+◌, ◌++◌, length, IfOk, OnOk};
+ghost use Rattle.std.specs.Prelude.{◌≡◌, ◌≤◌, ◌+◌, ◌++◌, length, find, IfOk, OnOk};
 ghost use Rattle.std.specs.List.{flat_map};
 ghost use Rattle.qc_stow.specs.Moves.{most_moves};
-ghost use Rattle.qc_tasks.specs.InstanceOf.{phases, tasks_at, tasks_of, ticks_in};
+ghost use Rattle.qc_tasks.specs.InstanceOf.{is_name_of, phases, release_at, tasks_at, tasks_of, ticks_in};
 
 use crate::moves::moves_at;
 use qc_model::{Phase, Task};
 use qc_num::{Bay, OutOfMemory, Tick};
-use qc_ship::Ship;
+use qc_ship::{NameTick, Ship, TaskName};
 use qc_stow::Row;
 use std::alloc::Global;
 
@@ -20,6 +20,33 @@ fn ticks_in(ship: &Ship, phase: Phase, moves: usize) -> Tick
     match phase {
         Phase::DeckOut | Phase::DeckIn => moves * ship.deck_move(),
         Phase::HoldOut | Phase::HoldIn => moves * ship.hold_move() + ship.cover(),
+    }
+}
+
+/// Whether a name is that of the task of a hatch and a phase.
+pub(crate) fn is_name_of(hatch: u16, phase: Phase, name: TaskName) -> bool
+    ensures { result ≡ is_name_of hatch phase name }
+{
+    hatch == name.hatch && phase.rank() == name.phase.rank()
+}
+
+/// The entry that names the task of a hatch and a phase.
+fn entry_of(entries: &[NameTick], hatch: u16, phase: Phase) -> Option<NameTick>
+    ensures { result ≡ find (λ entry. is_name_of hatch phase entry.name) entries.now }
+{
+    entries
+        .iter()
+        .copied()
+        .find(|entry| is_name_of(hatch, phase, entry.name))
+}
+
+/// The tick before which the task of a hatch and a phase doesn't start; 0 where it may start at any.
+fn release_at(entries: &[NameTick], hatch: u16, phase: Phase) -> Tick
+    ensures { result ≡ release_at entries.now hatch phase }
+{
+    match entry_of(entries, hatch, phase) {
+        Some(entry) => entry.tick,
+        None => 0,
     }
 }
 
@@ -44,6 +71,7 @@ fn push_task(
             phase,
             bay: Bay::from(place),
             ticks,
+            release: release_at(ship.not_before(), hatch, phase),
         })?;
     }
     Ok(())

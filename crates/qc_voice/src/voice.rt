@@ -3,7 +3,7 @@ ghost use Rattle.std.specs.Prelude.{◌≡◌};
 ghost use Rattle.qc_io.specs.Outside.{beside};
 ghost use Rattle.qc_voice.specs.Frame.{LeavesFiles};
 
-use crate::order::say_idle_pairs;
+use crate::order::say_idle_entries;
 use crate::texts::{Names, again, instance_of, names_of, ship_of};
 use qc_explain::{
     say_broken, say_course, say_infeasible, say_log, say_plan, say_spent, say_tree, say_waits,
@@ -229,7 +229,7 @@ fn say_on_ship<S: Shelf>(page: &mut Page, shelf: &mut S, names: &Names<'_>, ende
         say_break(page, shelf, &names.read, ship, told);
     }
     say_notes(page, name, ship);
-    say_idle_pairs(page, shelf, &names.read, name, ship);
+    say_idle_entries(page, shelf, &names.read, name, ship);
     if ended.status == Status::Infeasible && names.written.is_some() {
         say_no_plan(page, shelf, &names.read, ship)
     }

@@ -111,7 +111,8 @@ Faults end with 2 to 6, 8, 9 and 15, and are told by their kind and place: man 5
 const DISPATCH: &[u8] = b"qc dispatch SHIP STOW PLAN LOG
 
 Follows the order of a plan with the lengths that tasks really take. LOG has lines tick N, when N
-ticks go by, and done TASK; each start is told at the first moment at which the rules allow it.
+ticks go by, done TASK, and left TASK N, what a task that runs still needs, by which nothing starts;
+each start is told at the first moment at which the rules allow it.
 Ends with 0, or 13 Broken.
 Faults end with 2 to 6, 8, 9, 15 and 17, and are told by their kind and place: man 5 qc.
 ";

@@ -16,7 +16,7 @@ cranes_at-requires-clause-some c =
     let count : c.len.result ≡ length c.in_ok-hatches.hatches.items = omega (arith, c.len.ensures) in
     let read = rw count at c.in_ok-places.ensures in
     let are = Places-from (length c.in_ok-hatches.hatches.items) ms c.in_ok-places.places.items has.count.1 read in
-    rw c.as_slice-3.ensures.value (omega (arith, are.total, has.count.0))
+    rw c.as_slice-4.ensures.value (omega (arith, are.total, has.count.0))
 
 pub cranes_at-requires-clause-few : goal.cranes_at-requires-clause-few
 cranes_at-requires-clause-few c =
@@ -25,7 +25,7 @@ cranes_at-requires-clause-few c =
     let count : c.len.result ≡ length c.in_ok-hatches.hatches.items = omega (arith, c.len.ensures) in
     let read = rw count at c.in_ok-places.ensures in
     let are = Places-from (length c.in_ok-hatches.hatches.items) ms c.in_ok-places.places.items has.count.1 read in
-    rw c.as_slice-3.ensures.value (omega (arith, are.total, has.count.1))
+    rw c.as_slice-4.ensures.value (omega (arith, are.total, has.count.1))
 
 pub of-requires : goal.of-requires
 of-requires c =
@@ -34,7 +34,8 @@ of-requires c =
     let read_places = rw count at c.in_ok-places.ensures in
     let read_pairs = rw c.as_slice.ensures.value at c.in_ok-apart.ensures in
     let read_order = rw c.as_slice-2.ensures.value at c.in_ok-before.ensures in
-    let read_cranes = rw (c.gives_places-in_decimetres.ensures, c.as_slice-3.ensures.value) at c.in_ok-cranes.ensures in
+    let read_releases = rw c.as_slice-3.ensures.value at c.in_ok-not_before.ensures in
+    let read_cranes = rw (c.gives_places-in_decimetres.ensures, c.as_slice-4.ensures.value) at c.in_ok-cranes.ensures in
     rw c.gives_places-in_decimetres.ensures
-    (IsShip-from_parts ms c.in_ok-hatches.hatches.items c.in_ok-places.places.items c.in_ok-times.times c.in_ok-apart.apart.items c.in_ok-before.before.items c.in_ok-cranes.cranes.items
-    c.in_ok-hatches.ensures read_places (sym c.in_ok-times.ensures) read_pairs read_order read_cranes)
+    (IsShip-from_parts ms c.in_ok-hatches.hatches.items c.in_ok-places.places.items c.in_ok-times.times c.in_ok-apart.apart.items c.in_ok-before.before.items c.in_ok-not_before.not_before.items c.in_ok-cranes.cranes.items
+    c.in_ok-hatches.ensures read_places (sym c.in_ok-times.ensures) read_pairs read_order read_releases read_cranes)

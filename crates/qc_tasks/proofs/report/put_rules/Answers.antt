@@ -27,7 +27,7 @@ returns-in_err-put_pairs-2 g c =
 
 pub returns : goal.returns
 returns g c =
-    writes_then (g.K.Sink.view c.args.sink.now) (g.K.Sink.view c.put_pairs.new.sink) (g.K.Sink.view c.put_all.new.sink) _ _ c.put_all.result
+    writes_then (g.K.Sink.view c.args.sink.now) (g.K.Sink.view c.put_pairs.new.sink) (g.K.Sink.view c.put_last.new.sink) _ _ c.put_last.result
     (rw c.before-2.ensures.before at c.in_ok-put_pairs.ensures)
-    (writes_then (g.K.Sink.view c.put_pairs.new.sink) (g.K.Sink.view c.put_pairs-2.new.sink) (g.K.Sink.view c.put_all.new.sink) _ _ c.put_all.result
-    (rw c.apart.ensures.apart at c.in_ok-put_pairs-2.ensures) (rw (c.as_bytes.ensures.bytes, c.total_line.ensures) at c.put_all.ensures.writes))
+    (writes_then (g.K.Sink.view c.put_pairs.new.sink) (g.K.Sink.view c.put_pairs-2.new.sink) (g.K.Sink.view c.put_last.new.sink) _ _ c.put_last.result
+    (rw c.apart.ensures.apart at c.in_ok-put_pairs-2.ensures) c.put_last.ensures)
