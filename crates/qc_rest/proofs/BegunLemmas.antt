@@ -1,14 +1,14 @@
 -- What a dispatcher keeps, of tasks that have begun, in plain numbers.
-use Rattle.std.proofs.Common.{◌≡◌, ◌≢◌, ℕ, ◌+◌, ◌<◌, ◌≤◌, ◌⊎◌, inl, inr, List, length, Option, None, Some, IfSome, IsSome, true, false, refl, sym, ap, subst, ◌∙◌, arith}
+use Rattle.std.proofs.Common.{◌≡◌, ◌≢◌, ℕ, ◌+◌, ◌<◌, ◌≤◌, ◌⊎◌, inl, inr, length, Option, None, Some, IfSome, IsSome, refl, subst, arith}
 use Rattle.std.specs.Prelude.{IsSomeAnd}
 use Rattle.std.specs.Option.{unwrap_or}
 use Rattle.qc_dispatch.specs.declared.stage.Stage.{Stage}
 use Rattle.qc_dispatch.specs.declared.stage.Stage.TheVariants.{Waiting, Running, Ended}
-use Rattle.qc_dispatch.specs.Course.{Course, IsOver, end_at, end_in, is_waiting, stage_of, start_at, start_in}
+use Rattle.qc_dispatch.specs.Course.{Course, IsOver, end_at, end_in, stage_of, start_at, start_in}
 use Rattle.qc_dispatch.specs.Order.{AreTied, free_of, gap}
 use Rattle.qc_dispatch.specs.Promises.{IsSpan, Keeps}
 use Rattle.qc_dispatch.specs.Worked.{begun_at}
-use Rattle.qc_model.specs.Instance.{InstanceView, IsBefore}
+use Rattle.qc_model.specs.Instance.{IsBefore}
 use Rattle.qc_rest.specs.Progress.{AreOver, HasBegun, IsLeft}
 
 -- ---- options

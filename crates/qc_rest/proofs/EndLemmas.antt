@@ -1,16 +1,14 @@
 -- When the whole ends, and when what runs is over as far as a log tells.
-use Rattle.std.proofs.Common.{◌≡◌, ℕ, ◌+◌, ◌-◌, ◌<◌, ◌≤◌, inl, inr, List, length, slice_index, Option, None, Some, refl, sym, ap, subst, ◌∙◌, arith}
+use Rattle.std.proofs.Common.{◌≡◌, ℕ, ◌+◌, ◌-◌, ◌<◌, ◌≤◌, inl, inr, List, length, sym, ap, ◌∙◌, arith}
 use Rattle.std.specs.Prelude.{◌↔◌}
-use Rattle.std.specs.Option.{unwrap_or}
-use Rattle.qc_dispatch.specs.declared.stage.Stage.{Stage}
-use Rattle.qc_dispatch.specs.declared.stage.Stage.TheVariants.{Waiting, Running, Ended}
-use Rattle.qc_dispatch.specs.Course.{Course, end_at, end_in, is_waiting, stage_of}
+use Rattle.qc_dispatch.specs.declared.stage.Stage.TheVariants.{Waiting}
+use Rattle.qc_dispatch.specs.Course.{Course, is_waiting, stage_of}
 use Rattle.qc_dispatch.specs.Promises.{Keeps}
 use Rattle.qc_dispatch.specs.Worked.{with_tasks}
 use Rattle.qc_model.specs.declared.schedule.Slot.{Slot}
 use Rattle.qc_model.specs.declared.task.Task.{Task}
-use Rattle.qc_model.specs.Instance.{InstanceView, ticks_of}
-use Rattle.qc_model.specs.Rules.{Feasible, end_of, ends, start_of, starts}
+use Rattle.qc_model.specs.Instance.{InstanceView}
+use Rattle.qc_model.specs.Rules.{Feasible, end_of, ends, starts}
 use Rattle.qc_model.proofs.Bounded.{last_end_le}
 use Rattle.qc_model.proofs.NodeLemmas.{ends_by, start_at}
 use Rattle.std.proofs.lemmas.List.{length-map}
@@ -74,7 +72,8 @@ module _ (c : Course) (over : ℕ → ℕ) (stands : List Stand) (rest : Instanc
   ends_forth : (moment : ℕ) → ends real sched ≤ moment → EndsBy moment
   ends_forth moment by = (
     λ j low begun. omega (arith, by, end_within real sched j (w.slots_count ∙ sym w.tasks_count) (low_now j low)),
-    rest_by moment by)
+    rest_by moment by,
+  )
 
   ends_back : (moment : ℕ) → EndsBy moment → ends real sched ≤ moment
   ends_back moment each = ends_within real sched moment (λ j low. one j (omega (arith, low, w.tasks_count)))
@@ -84,8 +83,12 @@ module _ (c : Course) (over : ℕ → ℕ) (stands : List Stand) (rest : Instanc
         | inl begun ↦ each.0 j low begun
         | inr still ↦
             let here : IsLeft c j = record { task = low; waits = still } in
-            omega (arith, each.1 j here, end_left j here,
-            end_within rest new (number_of c j) feasible.all_tasks (number_low c over stands rest new keeps is feasible j here))
+            omega (
+              arith,
+              each.1 j here,
+              end_left j here,
+              end_within rest new (number_of c j) feasible.all_tasks (number_low c over stands rest new keeps is feasible j here),
+            )
       ]
 
   -- the whole ends when all that has begun is over and the rest ends, counted from now

@@ -1,14 +1,14 @@
 -- The old order in the rest starts no task sooner than it goes on, and each less than the travel of a bay later.
-use Rattle.std.proofs.Common.{◌≡◌, ◌≢◌, ℕ, zero, suc, ◌+◌, ◌-◌, ◌*◌, ◌<◌, ◌≤◌, ◌⊎◌, ℤ, pos, ◌+ℤ◌, ◌-ℤ◌, ◌≤ℤ◌, inl, inr, List, length, map, Bool, true, false, refl, sym, ap, subst, ◌∙◌, arith}
+use Rattle.std.proofs.Common.{◌≡◌, ◌≢◌, ℕ, zero, suc, ◌+◌, ◌-◌, ◌*◌, ◌<◌, ◌≤◌, ◌⊎◌, ℤ, pos, ◌+ℤ◌, ◌≤ℤ◌, inl, inr, List, length, map, false, refl, sym, ap, subst, ◌∙◌, arith}
 use Rattle.std.specs.Int.{div_ceil}
 use Rattle.std.specs.List.{range_with_len}
 use Rattle.std.specs.Prelude.{◌==◌}
-use Rattle.std.proofs.lemmas.Bool.{cases_eq, cases_lt, cases_order, cond-true, cond_both, lt-ltb, le-ltb}
+use Rattle.std.proofs.lemmas.Bool.{cases_eq, cases_lt, cases_order, cond_both, lt-ltb, le-ltb}
 use Rattle.std.proofs.lemmas.Grind.{div_ceil_times}
 use Rattle.std.proofs.Math.Nat.{mul-le-mul_left}
 use Rattle.qc_dispatch.specs.declared.stage.Stage.{Stage}
 use Rattle.qc_dispatch.specs.declared.stage.Stage.TheVariants.{Waiting, Running}
-use Rattle.qc_dispatch.specs.Course.{Course, is_waiting, stage_of}
+use Rattle.qc_dispatch.specs.Course.{Course, stage_of}
 use Rattle.qc_dispatch.specs.Order.{AreTied, ArePaired, Leads, free_of, gap}
 use Rattle.qc_dispatch.specs.Promises.{Keeps}
 use Rattle.qc_model.specs.declared.schedule.Slot.{Slot}
@@ -22,12 +22,11 @@ use Rattle.qc_model.proofs.Bays.{bays}
 use Rattle.qc_model.proofs.Extremes.{greatest_le}
 use Rattle.qc_model.proofs.LimitsOf.{travel_of}
 use Rattle.qc_model.proofs.NodeLemmas.{one_crane_apart}
-use Rattle.qc_rest.specs.declared.stand.Stand.{Stand}
-use Rattle.qc_rest.specs.GoneOn.{AreGoneOn, MayGoBy, end_with}
-use Rattle.qc_rest.specs.OldOrder.{IsOldOrder, MayFollowBy}
-use Rattle.qc_rest.specs.Places.{ArePlaces, Outlook, far_of, off_of}
+use Rattle.qc_rest.specs.GoneOn.{AreGoneOn, end_with}
+use Rattle.qc_rest.specs.OldOrder.{IsOldOrder}
+use Rattle.qc_rest.specs.Places.{ArePlaces, Outlook}
 use Rattle.qc_rest.specs.Progress.{AreOver, HasBegun, IsLeft, number_of}
-use Rattle.qc_rest.specs.Rest.{HoldsBack, IsExactRest, IsRest}
+use Rattle.qc_rest.specs.Rest.{HoldsBack, IsExactRest}
 use Rattle.qc_rest.specs.Stands.{IsStand, stand_of}
 use Rattle.qc_rest.proofs.BayLemmas.{distance_same}
 use Rattle.qc_rest.proofs.BegunLemmas.{begun_or_waits}
@@ -44,9 +43,9 @@ free_by : (inst : InstanceView) (j k tick : ℕ) → release_of inst j ≤ tick 
 free_by inst j k tick released arrives clear =
     let waits : greatest (map (berth_wait inst j k) (range_with_len 0 (length inst.cranes))) ≤ tick =
     greatest_le (berth_wait inst j k) tick 0 (length inst.cranes) (λ v low.
-        cond_both (berth_distance inst v k (bay_of inst j) == 0) 0 (berth_clear inst v k (bay_of inst j)) (λ n. n ≤ tick)
-        (λ none. omega arith)
-        (λ some. clear v (omega (arith, low)) (above (berth_distance inst v k (bay_of inst j)) some))) in
+    cond_both (berth_distance inst v k (bay_of inst j) == 0) 0 (berth_clear inst v k (bay_of inst j)) (λ n. n ≤ tick)
+    (λ none. omega arith)
+    (λ some. clear v (omega (arith, low)) (above (berth_distance inst v k (bay_of inst j)) some))) in
     omega (arith, released, arrives, waits)
   where
     above : (n : ℕ) → (n == 0) ≡ false → 0 < n
@@ -93,7 +92,7 @@ module _ (o : Outlook) (valid : Valid o.course.inst) (plan : Feasible o.course.i
     free_then = free_by c.inst j (crane_of c.plan j) (c.clock + begins j)
         (omega (arith, (exact.is.tasks j waits).released, released))
         (subst (λ (k : ℕ). arrival c.inst k (bay_of c.inst j) ≤ c.clock + begins j) crane_same
-            (from_berth c o.over o.stands rest sched valid plan keeps known exact.is feasible j waits))
+        (from_berth c o.over o.stands rest sched valid plan keeps known exact.is feasible j waits))
         berths
       where
         berths : (v : ℕ) → v < length c.inst.cranes → 0 < berth_distance c.inst v (crane_of c.plan j) (bay_of c.inst j)
@@ -115,20 +114,33 @@ module _ (o : Outlook) (valid : Valid o.course.inst) (plan : Feasible o.course.i
       begun_clear : o.over i + gap c.inst c.plan i j ≤ c.clock + begins j
       begun_clear = elim (cases_eq (crane_of c.plan i) (crane_of c.plan j)) [
         | inl same ↦
-            omega (arith, gap_of_one c.inst c.plan i j same,
-            one_crane c o.over o.stands rest sched valid plan keeps known exact.is feasible i j leads.leader begun waits (same ∙ sym crane_same))
+            omega (
+              arith,
+              gap_of_one c.inst c.plan i j same,
+              one_crane c o.over o.stands rest sched valid plan keeps known exact.is feasible i j leads.leader begun waits (same ∙ sym crane_same),
+            )
         | inr differ ↦
             let e = gap_of_two c.inst c.plan i j differ in
             let at : distance c.inst (crane_of c.plan i) (bay_of c.inst i) (crane_of sched (number_of c j)) (bay_of c.inst j) ≡ slot_distance c.inst c.plan i j =
             distance_at c.inst (crane_of c.plan i) (crane_of sched (number_of c j)) (crane_of c.plan i) (crane_of c.plan j) (bay_of c.inst i) (bay_of c.inst j) refl crane_same in
             elim (cases_lt 0 (slot_distance c.inst c.plan i j)) [
               | inl near ↦
-                  omega (arith, e, at, two_cranes c o.over o.stands rest sched valid plan keeps known exact.is feasible i j leads.leader begun waits
-                  (λ s. differ (s ∙ crane_same)) (omega (arith, near, at)))
+                  omega (
+                    arith,
+                    e,
+                    at,
+                    two_cranes c o.over o.stands rest sched valid plan keeps known exact.is feasible i j leads.leader begun waits
+                        (λ s. differ (s ∙ crane_same)) (omega (arith, near, at)),
+                  )
               | inr none ↦
                   let zero_gap : slot_distance c.inst c.plan i j ≡ 0 = omega (arith, none) in
-                  omega (arith, e, zero_gap, held_back c o.over o.stands rest sched valid plan keeps known exact.is feasible i j leads.leader begun waits
-                  (first_of_two leads.tied differ zero_gap) released)
+                  omega (
+                    arith,
+                    e,
+                    zero_gap,
+                    held_back c o.over o.stands rest sched valid plan keeps known exact.is feasible i j leads.leader begun waits
+                        (first_of_two leads.tied differ zero_gap) released,
+                  )
             ]
       ]
 
@@ -137,8 +149,12 @@ module _ (o : Outlook) (valid : Valid o.course.inst) (plan : Feasible o.course.i
       | inl begun ↦ omega (arith, begun_clear i leads begun, end_begun o valid plan keeps known stand gone i begun)
       | inr still ↦
           let here : IsLeft c i = record { task = leads.leader; waits = still } in
-          omega (arith, end_left o valid plan keeps known stand gone i here, before i here leads,
-          ahead c o.over o.stands places rest sched valid plan keeps exact old i j here waits leads)
+          omega (
+            arith,
+            end_left o valid plan keeps known stand gone i here,
+            before i here leads,
+            ahead c o.over o.stands places rest sched valid plan keeps exact old i j here waits leads,
+          )
     ]
 
     no_sooner : o.goes j ≤ c.clock + begins j
@@ -281,8 +297,15 @@ module _ (o : Outlook) (valid : Valid o.course.inst) (plan : Feasible o.course.i
 
     clear_soon : (i : ℕ) → IsLeft c i → Leads c.inst c.plan i j → begins i + ticks_of c.inst i + gap c.inst c.plan i j ≤ limit j
     clear_soon i here leads =
-        omega (arith, now, some_travel, before i here leads, goes_after o valid plan keeps known stand gone i j waits leads,
-        end_left o valid plan keeps known stand gone i here, goes_now o valid plan keeps known stand gone i here)
+        omega (
+          arith,
+          now,
+          some_travel,
+          before i here leads,
+          goes_after o valid plan keeps known stand gone i j waits leads,
+          end_left o valid plan keeps known stand gone i here,
+          goes_now o valid plan keeps known stand gone i here,
+        )
 
     soon : c.clock + begins j + 1 ≤ o.goes j + c.inst.travel
     soon =

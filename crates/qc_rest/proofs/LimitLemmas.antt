@@ -1,13 +1,13 @@
 -- The limits of two cranes leave room for both.
-use Rattle.std.proofs.Common.{◌≡◌, ◌≢◌, ℕ, zero, suc, ◌+◌, ◌-◌, ◌*◌, ◌/◌, ◌%◌, ◌<◌, ◌≤◌, ◌⊎◌, ℤ, pos, ◌+ℤ◌, ◌-ℤ◌, ◌≤ℤ◌, inl, inr, List, length, true, false, IfSome, IsSome, Option, None, Some, refl, sym, ap, subst, ◌∙◌, arith}
+use Rattle.std.proofs.Common.{◌≡◌, ◌≢◌, ℕ, zero, suc, ◌+◌, ◌-◌, ◌*◌, ◌/◌, ◌<◌, ◌≤◌, ◌⊎◌, ℤ, pos, ◌+ℤ◌, ◌≤ℤ◌, inl, inr, List, length, false, IfSome, IsSome, Option, None, Some, refl, sym, ap, subst, ◌∙◌, arith}
 use Rattle.std.specs.Int.{div_ceil}
-use Rattle.std.specs.Prelude.{if◌then◌else◌, IsSomeAnd}
-use Rattle.std.proofs.lemmas.Bool.{cases_eq, cases_lt, cond-false, cond-true, eq-eqb, lt-ltb, ne_eqb}
+use Rattle.std.specs.Prelude.{IsSomeAnd}
+use Rattle.std.proofs.lemmas.Bool.{cases_eq, cases_lt, cond-false, cond-true, lt-ltb, ne_eqb}
 use Rattle.std.proofs.lemmas.Grind.{div_ceil_times}
 use Rattle.std.proofs.Math.Nat.{mul-le-mul_left}
 use Rattle.qc_dispatch.specs.declared.stage.Stage.{Stage}
 use Rattle.qc_dispatch.specs.declared.stage.Stage.TheVariants.{Waiting, Running, Ended}
-use Rattle.qc_dispatch.specs.Course.{Course, IsOver, end_at, end_in, is_waiting, stage_of, start_at, start_in}
+use Rattle.qc_dispatch.specs.Course.{Course, end_in, is_waiting, stage_of, start_at, start_in}
 use Rattle.qc_dispatch.specs.Order.{AreTied, Leads, free_of, gap}
 use Rattle.qc_dispatch.specs.Promises.{Keeps}
 use Rattle.qc_dispatch.specs.Worked.{begun_at}
@@ -26,8 +26,8 @@ use Rattle.qc_rest.specs.declared.stand.Stand.{Stand}
 use Rattle.qc_rest.specs.GoneOn.{AreGoneOn, end_with}
 use Rattle.qc_rest.specs.Places.{IsNextOf, Outlook, far_of, off_of}
 use Rattle.qc_rest.specs.Progress.{AreOver, HasBegun, IsLeft}
-use Rattle.qc_rest.specs.Stands.{IsIdle, IsLastOf, IsStand, stand_of}
-use Rattle.qc_rest.proofs.BegunLemmas.{begun_or_waits, clear, early, freed, lasts}
+use Rattle.qc_rest.specs.Stands.{IsLastOf, IsStand, stand_of}
+use Rattle.qc_rest.proofs.BegunLemmas.{clear, early, freed}
 use Rattle.qc_rest.proofs.StandLemmas.{distance_at, gap_of_one, gap_of_two}
 
 -- ---- ticks and bays
@@ -218,8 +218,13 @@ module _ (o : Outlook) (valid : Valid o.course.inst) (plan : Feasible o.course.i
       let until : s.until ≡ o.over i = ap (λ (p : Stand). p.until) last.2 in
       let others : crane_of c.plan i ≢ w = λ e. differ (sym last.1.by ∙ e) in
       let away : 0 < slot_distance c.inst c.plan i j = omega (arith, bay, near) in
-      omega (arith, bay, until, gap_of_two c.inst c.plan i j others,
-      after_begun i j last.1.task last.1.begun waits (inr (inr (inr away))))
+      omega (
+        arith,
+        bay,
+        until,
+        gap_of_two c.inst c.plan i j others,
+        after_begun i j last.1.task last.1.begun waits (inr (inr (inr away))),
+      )
 
   some_travel : 0 < c.inst.travel
   some_travel = omega (arith, (travel_of c.inst valid).0)

@@ -1,6 +1,6 @@
 -- The old order is a feasible schedule of the rest.
-use Rattle.std.proofs.Common.{◌≡◌, ◌≢◌, ℕ, ◌+◌, ◌-◌, ◌*◌, ◌<◌, ◌≤◌, ◌⊎◌, ℤ, ◌≤ℤ◌, inl, inr, List, length, Bool, true, false, refl, sym, ap, subst, ◌∙◌, arith}
-use Rattle.std.proofs.lemmas.Bool.{cases_eq, cases_lt, false≢true}
+use Rattle.std.proofs.Common.{◌≡◌, ◌≢◌, ℕ, ◌+◌, ◌*◌, ◌<◌, ◌≤◌, ℤ, ◌≤ℤ◌, inl, inr, List, length, true, refl, sym, ap, subst, ◌∙◌, arith}
+use Rattle.std.proofs.lemmas.Bool.{false≢true}
 use Rattle.qc_dispatch.specs.declared.stage.Stage.{Stage}
 use Rattle.qc_dispatch.specs.declared.stage.Stage.TheVariants.{Waiting, Running, Ended}
 use Rattle.qc_dispatch.specs.Course.{Course, is_waiting, stage_of}
@@ -10,9 +10,9 @@ use Rattle.qc_dispatch.proofs.OrderLemmas.{before_leads, one_leads}
 use Rattle.qc_model.specs.declared.schedule.Slot.{Slot}
 use Rattle.qc_model.specs.declared.task.Task.{Task}
 use Rattle.qc_model.specs.Bays.{bays_between}
-use Rattle.qc_model.specs.Instance.{InstanceView, Valid, IsApart, IsBefore, bay_of, crane, ticks_of}
+use Rattle.qc_model.specs.Instance.{InstanceView, Valid, bay_of, crane, ticks_of}
 use Rattle.qc_model.specs.Rules.{Feasible, IsClear, KeepsApart, KeepsBefore, KeepsBerth, KeepsMargin, KeepsReach, KeepsReady, KeepsTravel, crane_of, end_of, slot_distance, start_of}
-use Rattle.qc_model.specs.Ticks.{arrival, berth_clear, berth_distance, distance, travel_between}
+use Rattle.qc_model.specs.Ticks.{distance, travel_between}
 use Rattle.qc_model.proofs.GoesLemmas.{distance_swapped}
 use Rattle.qc_rest.specs.declared.stand.Stand.{Stand}
 use Rattle.qc_rest.specs.OldOrder.{IsOldOrder, MayFollowBy}
@@ -68,8 +68,9 @@ module _ (c : Course) (over : ℕ → ℕ) (stands : List Stand) (places : ℕ �
         let now = exact.is.cranes w w_low in
         let kept = plan.reach j waits.task in
         rw (bay_at j waits) (
-        subst (λ (x : ℤ). x ≤ℤ bay_of c.inst j) (sym now.from) kept.0,
-        subst (λ (x : ℤ). bay_of c.inst j ≤ℤ x) (sym now.to) kept.1)
+          subst (λ (x : ℤ). x ≤ℤ bay_of c.inst j) (sym now.from) kept.0,
+          subst (λ (x : ℤ). bay_of c.inst j ≤ℤ x) (sym now.to) kept.1,
+        )
 
     reach_now : KeepsReach rest sched (number_of c j)
     reach_now = rw (old.cranes j waits) reach_planned

@@ -1,28 +1,21 @@
 -- A task that is left starts behind what has begun, and when cranes have come from where they stood at first.
-use Rattle.std.proofs.Common.{◌≡◌, ◌≢◌, ℕ, ◌+◌, ◌*◌, ◌<◌, ◌≤◌, ◌⊎◌, ℤ, inl, inr, List, length, slice_index_or, true, false, refl, sym, ap, subst, ◌∙◌, arith}
-use Rattle.std.specs.Prelude.{◌==◌}
-use Rattle.std.proofs.lemmas.Bool.{cases_eq, cases_lt, ne_eqb, cond-false}
-use Rattle.qc_dispatch.specs.declared.stage.Stage.{Stage}
+use Rattle.std.proofs.Common.{◌≡◌, ◌≢◌, ℕ, ◌+◌, ◌<◌, ◌≤◌, ◌⊎◌, inl, inr, List, length, refl, ap, subst, arith}
+use Rattle.std.proofs.lemmas.Bool.{cases_lt}
 use Rattle.qc_dispatch.specs.declared.stage.Stage.TheVariants.{Waiting}
-use Rattle.qc_dispatch.specs.Course.{Course, is_waiting, stage_of}
-use Rattle.qc_dispatch.specs.Order.{AreTied, ArePaired, free_of, gap}
+use Rattle.qc_dispatch.specs.Course.{Course, is_waiting}
+use Rattle.qc_dispatch.specs.Order.{ArePaired}
 use Rattle.qc_dispatch.specs.Promises.{Keeps}
-use Rattle.qc_dispatch.specs.Worked.{begun_at, with_tasks}
+use Rattle.qc_dispatch.specs.Worked.{begun_at}
 use Rattle.qc_model.specs.declared.schedule.Slot.{Slot}
-use Rattle.qc_model.specs.declared.task.Task.{Task}
-use Rattle.qc_model.specs.Instance.{InstanceView, Valid, IsApart, IsBefore, bay_of, crane, no_task, release_of, task, ticks_of}
-use Rattle.qc_model.specs.Nodes.{berth_wait}
-use Rattle.qc_model.specs.Rules.{Feasible, IsClear, KeepsBerth, KeepsReach, KeepsReady, crane_of, end_of, slot_distance, start_of}
+use Rattle.qc_model.specs.Instance.{InstanceView, Valid, IsBefore, bay_of, crane, release_of}
+use Rattle.qc_model.specs.Rules.{Feasible, crane_of, start_of}
 use Rattle.qc_model.specs.Ticks.{arrival, berth_clear, berth_distance, distance, travel_between}
-use Rattle.qc_model.proofs.Extremes.{le_greatest}
-use Rattle.qc_model.proofs.GoesLemmas.{distance_swapped}
 use Rattle.qc_rest.specs.declared.stand.Stand.{Stand}
-use Rattle.qc_rest.specs.Joined.{IsJoined}
 use Rattle.qc_rest.specs.Progress.{AreOver, HasBegun, IsLeft, number_of}
-use Rattle.qc_rest.specs.Rest.{HoldsBack, IsRest}
-use Rattle.qc_rest.specs.Stands.{IsStand, stand_of}
-use Rattle.qc_rest.proofs.BayLemmas.{distance_over, distance_same, travel_over, travel_swapped}
-use Rattle.qc_rest.proofs.BegunLemmas.{begun_before, begun_or_waits, clear, early, freed, lasts, not_left, over_before, runs_or_over}
+use Rattle.qc_rest.specs.Rest.{IsRest}
+use Rattle.qc_rest.specs.Stands.{stand_of}
+use Rattle.qc_rest.proofs.BayLemmas.{distance_over, travel_over}
+use Rattle.qc_rest.proofs.BegunLemmas.{early, freed, lasts, runs_or_over}
 use Rattle.qc_rest.proofs.NumberLemmas.{counts_differ}
 use Rattle.qc_rest.proofs.StandLemmas.{crane_low, done_for, from_other, from_own}
 

@@ -1,21 +1,19 @@
 -- The cranes of the rest begin where they can be by now, in their order and the gap apart.
-use Rattle.std.proofs.Common.{◌≡◌, ◌≢◌, ℕ, zero, suc, ◌+◌, ◌-◌, ◌*◌, ◌/◌, ◌<◌, ◌≤◌, ◌⊎◌, ℤ, pos, ◌+ℤ◌, ◌-ℤ◌, ◌≤ℤ◌, inl, inr, List, length, refl, sym, ap, subst, ◌∙◌, arith}
+use Rattle.std.proofs.Common.{◌≡◌, ℕ, zero, suc, ◌+◌, ◌-◌, ◌*◌, ◌/◌, ◌<◌, ◌≤◌, ℤ, pos, ◌+ℤ◌, ◌-ℤ◌, ◌≤ℤ◌, inl, inr, length, refl, ap, subst, ◌∙◌, arith}
 use Rattle.std.proofs.lemmas.Bool.{cases_lt}
 use Rattle.std.proofs.Math.Nat.{mul-le-mul_left, zero-div}
 use Rattle.qc_dispatch.specs.Course.{Course}
 use Rattle.qc_dispatch.specs.Promises.{Keeps}
 use Rattle.qc_model.specs.Bays.{bays_between, bays_up}
-use Rattle.qc_model.specs.Instance.{InstanceView, Valid, bay_of}
-use Rattle.qc_model.specs.Rules.{Feasible, crane_of}
-use Rattle.qc_model.specs.Ticks.{travel_between}
+use Rattle.qc_model.specs.Instance.{Valid, bay_of}
+use Rattle.qc_model.specs.Rules.{Feasible}
 use Rattle.qc_model.proofs.Bays.{bays}
 use Rattle.qc_model.proofs.LimitsOf.{travel_of}
-use Rattle.qc_rest.specs.declared.stand.Stand.{Stand}
 use Rattle.qc_rest.specs.GoneOn.{AreGoneOn}
-use Rattle.qc_rest.specs.Places.{ArePlaces, IsHighEnough, IsNextOf, IsTop, LeavesRoom, Outlook, far_of, off_of}
+use Rattle.qc_rest.specs.Places.{ArePlaces, IsHighEnough, IsNextOf, Outlook, far_of, off_of}
 use Rattle.qc_rest.specs.Progress.{AreOver}
 use Rattle.qc_rest.specs.Stands.{CanBeAt, IsStand, stand_of}
-use Rattle.qc_rest.proofs.LimitLemmas.{rise, stand_stand, stand_task, task_stand, task_task}
+use Rattle.qc_rest.proofs.LimitLemmas.{stand_stand, stand_task, task_stand, task_task}
 
 at_itself : (x : ℤ) → x ≤ℤ x
 at_itself x = omega (arith, bays)

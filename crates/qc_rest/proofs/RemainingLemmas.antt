@@ -1,8 +1,7 @@
 -- What a log tells of tasks that run is what is taken to be known of them.
-use Rattle.std.proofs.Common.{◌≡◌, ℕ, ◌+◌, ◌<◌, ◌≤◌, Option, None, Some, refl, ap, arith}
+use Rattle.std.proofs.Common.{◌≡◌, ℕ, ◌+◌, Option, None, ap, arith}
 use Rattle.std.specs.Option.{unwrap_or}
-use Rattle.qc_dispatch.specs.declared.stage.Stage.TheVariants.{Running}
-use Rattle.qc_dispatch.specs.Course.{end_at, end_in, stage_of}
+use Rattle.qc_dispatch.specs.Course.{end_at, end_in}
 use Rattle.qc_dispatch.specs.Journal.{Journal}
 use Rattle.qc_rest.specs.Progress.{AreOver}
 use Rattle.qc_rest.specs.Remaining.{NoneIsDue, over_at, remaining}

@@ -1,12 +1,11 @@
 -- The instance that is made of what is left asks for all that it must, and for no more.
-use Rattle.std.proofs.Common.{◌≡◌, ◌≢◌, ℕ, zero, suc, ◌+◌, ◌-◌, ◌<◌, ◌≤◌, ◌⊎◌, ℤ, inl, inr, max, Bool, true, false, cond, ◌&&◌, ◌||◌, List, [], ◌∷◌, length, map, filter, take, slice_index_or, get_or, refl, sym, ap, subst, ◌∙◌, arith}
+use Rattle.std.proofs.Common.{◌≡◌, ℕ, zero, suc, ◌+◌, ◌-◌, ◌<◌, ◌≤◌, ◌⊎◌, ℤ, inl, inr, Bool, true, ◌&&◌, ◌||◌, List, [], ◌∷◌, length, map, filter, take, slice_index_or, get_or, refl, sym, ap, subst, ◌∙◌, arith}
 use Rattle.std.specs.Prelude.{Contains, ◌==◌}
 use Rattle.std.specs.List.{count_by, list_any, range_with_len}
 use Rattle.std.proofs.lemmas.Bool.{and_from, and_parts, cases_Bool, cases_eq, cond-false, cond-true, cond_both, eq-eqb, false≢true, or_cases, or_left, or_right}
 use Rattle.std.proofs.lemmas.List.{get_or-map, length-map}
 use Rattle.std.proofs.lemmas.List.Folds.{list_any_at}
 use Rattle.std.proofs.lemmas.List.FromFn.{get_or-map-range_with_len, length-map-range_with_len}
-use Rattle.std.proofs.lemmas.List.Sums.{length-filter}
 use Rattle.qc_dispatch.specs.declared.stage.Stage.{Stage}
 use Rattle.qc_dispatch.specs.declared.stage.Stage.TheVariants.{Waiting, Running, Ended}
 use Rattle.qc_dispatch.specs.Course.{Course, is_running, is_waiting, left, stage_of}
@@ -16,7 +15,7 @@ use Rattle.qc_num.proofs.Lists.{Contains-map}
 use Rattle.qc_model.specs.declared.pair.Pair.{Pair}
 use Rattle.qc_model.specs.declared.crane.Crane.{Crane}
 use Rattle.qc_model.specs.declared.task.Task.{Task}
-use Rattle.qc_model.specs.Instance.{InstanceView, IsApart, IsBefore, Valid, crane, no_crane, no_task, pair_of, release_of, task}
+use Rattle.qc_model.specs.Instance.{InstanceView, IsBefore, Valid, crane, no_crane, no_task, pair_of, release_of, task}
 use Rattle.qc_model.specs.Nodes.{greatest, is_before}
 use Rattle.qc_model.proofs.Extremes.{greatest_le, le_greatest}
 use Rattle.qc_model.proofs.NodeLemmas.{before_found}
@@ -194,8 +193,8 @@ module _ (c : Course) (over : ℕ → ℕ) (stands : List Stand) (places : ℕ �
   release_least j tick released held =
       let most : greatest (map (held_by c over j) (range_with_len 0 (length c.inst.tasks))) ≤ tick =
       greatest_le (held_by c over j) tick 0 (length c.inst.tasks) (λ i low.
-          cond_both (holds_back c i j) (over i - c.clock) 0 (λ n. n ≤ tick)
-          (λ t. omega (arith, held i (test_holds c i j (omega (arith, low)) t))) (λ _. omega arith)) in
+      cond_both (holds_back c i j) (over i - c.clock) 0 (λ n. n ≤ tick)
+      (λ t. omega (arith, held i (test_holds c i j (omega (arith, low)) t))) (λ _. omega arith)) in
       omega (arith, most, released)
 
   -- pairs of tasks that are left

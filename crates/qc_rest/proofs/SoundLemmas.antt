@@ -1,5 +1,5 @@
 -- What was done, and behind it a feasible schedule of what is left, is a feasible schedule of the whole.
-use Rattle.std.proofs.Common.{◌≡◌, ◌≢◌, ℕ, ◌+◌, ◌*◌, ◌<◌, ◌≤◌, ◌⊎◌, ℤ, ◌≤ℤ◌, inl, inr, List, length, slice_index_or, true, false, refl, sym, ap, subst, ◌∙◌, arith}
+use Rattle.std.proofs.Common.{◌≡◌, ◌≢◌, ℕ, ◌+◌, ◌*◌, ◌<◌, ◌≤◌, ◌⊎◌, ℤ, ◌≤ℤ◌, inl, inr, List, length, sym, ap, subst, ◌∙◌, arith}
 use Rattle.std.proofs.lemmas.Bool.{ne_eqb, cond-false}
 use Rattle.qc_dispatch.specs.Course.{Course, stage_of}
 use Rattle.qc_dispatch.specs.Promises.{Keeps}
@@ -7,7 +7,7 @@ use Rattle.qc_dispatch.specs.Worked.{begun_at, with_tasks}
 use Rattle.qc_model.specs.declared.schedule.Slot.{Slot}
 use Rattle.qc_model.specs.declared.task.Task.{Task}
 use Rattle.qc_model.specs.Bays.{bays_between}
-use Rattle.qc_model.specs.Instance.{InstanceView, Valid, IsApart, IsBefore, bay_of, crane, release_of, ticks_of}
+use Rattle.qc_model.specs.Instance.{InstanceView, Valid, IsApart, IsBefore, bay_of, crane, release_of}
 use Rattle.qc_model.specs.Nodes.{berth_wait}
 use Rattle.qc_model.specs.Rules.{Feasible, IsClear, KeepsBerth, KeepsReach, KeepsReady, crane_of, end_of, slot_distance, start_of}
 use Rattle.qc_model.specs.Ticks.{arrival, berth_clear, berth_distance, distance, travel_between}
@@ -98,8 +98,9 @@ module _ (c : Course) (over : ℕ → ℕ) (stands : List Stand) (rest : Instanc
         let from = subst (λ (x : ℤ). (crane rest (crane_of new (number_of c j))).from ≤ℤ x) (bay_at j waits) kept.0 in
         let to = subst (λ (x : ℤ). x ≤ℤ (crane rest (crane_of new (number_of c j))).to) (bay_at j waits) kept.1 in
         rw (w.planned j waits).crane (
-        subst (λ (x : ℤ). x ≤ℤ bay_of c.inst j) now.from from,
-        subst (λ (x : ℤ). bay_of c.inst j ≤ℤ x) now.to to)
+          subst (λ (x : ℤ). x ≤ℤ bay_of c.inst j) now.from from,
+          subst (λ (x : ℤ). bay_of c.inst j ≤ℤ x) now.to to,
+        )
 
     reach_kept : KeepsReach real sched j
     reach_kept = rw (bay_same j low) (by_task j low reach_begun reach_left)
@@ -117,8 +118,9 @@ module _ (c : Course) (over : ℕ → ℕ) (stands : List Stand) (rest : Instanc
     ready_left waits =
         let own = w.planned j waits in
         rw own.crane (
-        omega (arith, own.start, (is.tasks j waits).released, released j waits),
-        omega (arith, own.start, from_berth c over stands rest new valid plan keeps known is feasible j waits))
+          omega (arith, own.start, (is.tasks j waits).released, released j waits),
+          omega (arith, own.start, from_berth c over stands rest new valid plan keeps known is feasible j waits),
+        )
 
     ready_kept : KeepsReady real sched j
     ready_kept = rw (bay_same j low, release_same j low) (by_task j low ready_begun ready_left)
@@ -171,8 +173,12 @@ module _ (c : Course) (over : ℕ → ℕ) (stands : List Stand) (rest : Instanc
           (sym (w.begun i first p).crane ∙ same ∙ (w.planned j q).crane)
 
       travel_back : HasBegun c j → IsLeft c i → over j + way ≤ c.clock + start_of new (number_of c i)
-      travel_back q p = omega (arith, way_back, one_crane c over stands rest new valid plan keeps known is feasible j i second q p
-          (sym (w.begun j second q).crane ∙ sym same ∙ (w.planned i p).crane))
+      travel_back q p = omega (
+        arith,
+        way_back,
+        one_crane c over stands rest new valid plan keeps known is feasible j i second q p
+            (sym (w.begun j second q).crane ∙ sym same ∙ (w.planned i p).crane),
+      )
 
       travel_left : IsLeft c i → IsLeft c j → IsClear rest new way (number_of c i) (number_of c j)
       travel_left p q =
@@ -197,10 +203,18 @@ module _ (c : Course) (over : ℕ → ℕ) (stands : List Stand) (rest : Instanc
 
       before_left : IsLeft c j → end_of real sched i ≤ start_of sched j
       before_left q = by_task i first
-          (λ p. omega (arith, (w.begun i first p).end, (w.planned j q).start,
-              held_back c over stands rest new valid plan keeps known is feasible i j first p q (inl before) (released j q)))
-          (λ p. omega (arith, end_left i p, (w.planned j q).start,
-              feasible.before (number_of c i) (number_of c j) (low_at i p) (low_at j q) (is.before i j p q before)))
+          (λ p. omega (
+            arith,
+            (w.begun i first p).end,
+            (w.planned j q).start,
+            held_back c over stands rest new valid plan keeps known is feasible i j first p q (inl before) (released j q),
+          ))
+          (λ p. omega (
+            arith,
+            end_left i p,
+            (w.planned j q).start,
+            feasible.before (number_of c i) (number_of c j) (low_at i p) (low_at j q) (is.before i j p q before),
+          ))
 
       before_kept : end_of real sched i ≤ start_of sched j
       before_kept = by_task j second before_begun before_left
@@ -296,7 +310,7 @@ module _ (c : Course) (over : ℕ → ℕ) (stands : List Stand) (rest : Instanc
   crane_range j low = by_task j low
       (λ some. subst (λ (k : ℕ). k < length c.inst.cranes) (sym (w.begun j low some).crane) (plan.crane_range j low))
       (λ waits. subst (λ (k : ℕ). k < length c.inst.cranes) (sym (w.planned j waits).crane)
-          (crane_low c over stands rest new keeps is feasible j waits))
+      (crane_low c over stands rest new keeps is feasible j waits))
 
   lower : {j : ℕ} → j < length tasks → j < length c.inst.tasks
   lower {j = j} low = subst (λ (n : ℕ). j < n) w.tasks_count low

@@ -1,22 +1,20 @@
 -- From where a crane stands: what it has begun is over in time for it, and what is left waits for it.
 use Rattle.std.proofs.Common.{◌≡◌, ◌≢◌, ℕ, ◌+◌, ◌*◌, ◌<◌, ◌≤◌, ◌⊎◌, ℤ, inl, inr, List, length, true, refl, sym, ap, subst, ◌∙◌, arith}
 use Rattle.std.proofs.lemmas.Bool.{cases_eq, cases_lt, eq-eqb, ne_eqb}
-use Rattle.qc_dispatch.specs.Course.{Course, is_waiting, left, stage_of}
+use Rattle.qc_dispatch.specs.Course.{Course, is_waiting, stage_of}
 use Rattle.qc_dispatch.specs.Order.{gap}
 use Rattle.qc_dispatch.specs.Promises.{Keeps}
-use Rattle.qc_dispatch.specs.Worked.{begun_at}
 use Rattle.qc_model.specs.declared.schedule.Slot.{Slot}
-use Rattle.qc_model.specs.declared.crane.Crane.{Crane}
 use Rattle.qc_model.specs.declared.task.Task.{Task}
-use Rattle.qc_model.specs.Instance.{InstanceView, bay_of, crane, task, ticks_of}
+use Rattle.qc_model.specs.Instance.{InstanceView, bay_of, crane, ticks_of}
 use Rattle.qc_model.specs.Rules.{Feasible, crane_of, slot_distance, start_of}
 use Rattle.qc_model.specs.Bays.{bays_between}
-use Rattle.qc_model.specs.Ticks.{arrival, berth_distance, distance, travel_between}
+use Rattle.qc_model.specs.Ticks.{berth_distance, distance, travel_between}
 use Rattle.qc_model.proofs.Bays.{bays}
 use Rattle.qc_rest.specs.declared.stand.Stand.{Stand}
 use Rattle.qc_rest.specs.Progress.{AreOver, HasBegun, IsLeft, number_of}
-use Rattle.qc_rest.specs.Rest.{IsCraneNow, IsRest}
-use Rattle.qc_rest.specs.Stands.{CanBeAt, IsLastOf, IsStand, stand_of}
+use Rattle.qc_rest.specs.Rest.{IsRest}
+use Rattle.qc_rest.specs.Stands.{IsLastOf, IsStand, stand_of}
 use Rattle.qc_rest.proofs.BayLemmas.{distance_over, distance_same, travel_over, travel_swapped}
 use Rattle.qc_rest.proofs.BegunLemmas.{clear, early, lasts}
 use Rattle.qc_rest.proofs.NumberLemmas.{count_below}

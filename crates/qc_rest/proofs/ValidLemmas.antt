@@ -1,9 +1,9 @@
 -- The instance that is made of what is left keeps all that every instance does.
-use Rattle.std.proofs.Common.{◌≡◌, ◌≢◌, ℕ, zero, suc, ◌+◌, ◌-◌, ◌<◌, ◌≤◌, ◌⊎◌, ℤ, pos, negsuc, ◌+ℤ◌, ◌≤ℤ◌, inl, inr, Bool, true, false, cond, ◌&&◌, List, [], ◌∷◌, length, map, filter, sum_by, get_or, slice_index_or, refl, sym, ap, subst, ◌∙◌, arith}
-use Rattle.std.specs.Prelude.{All, AllPairs, Contains, ◌↔◌}
-use Rattle.std.specs.List.{count_by, range_with_len}
+use Rattle.std.proofs.Common.{◌≡◌, ◌≢◌, ℕ, suc, ◌+◌, ◌-◌, ◌<◌, ◌≤◌, ◌⊎◌, ℤ, pos, negsuc, ◌+ℤ◌, ◌≤ℤ◌, inl, inr, Bool, true, List, [], ◌∷◌, length, map, filter, sum_by, slice_index_or, refl, sym, ap, subst, ◌∙◌, arith}
+use Rattle.std.specs.Prelude.{AllPairs, Contains, ◌↔◌}
+use Rattle.std.specs.List.{range_with_len}
 use Rattle.std.proofs.Math.Logic.{∥∥₁_map}
-use Rattle.std.proofs.lemmas.Bool.{and_parts, cases_eq, cases_lt, cases_order, cond_both}
+use Rattle.std.proofs.lemmas.Bool.{and_parts, cases_eq, cases_order, cond_both}
 use Rattle.std.proofs.lemmas.List.{get_or-map, length-map}
 use Rattle.std.proofs.lemmas.List.Elements.{All-contains_itself, All-filter, All-get_or, filter_passes}
 use Rattle.std.proofs.lemmas.List.FromFn.{length-map-range_with_len}
@@ -15,17 +15,17 @@ use Rattle.qc_dispatch.specs.Promises.{Keeps}
 use Rattle.qc_model.specs.declared.crane.Crane.{Crane}
 use Rattle.qc_model.specs.declared.pair.Pair.{Pair}
 use Rattle.qc_model.specs.declared.task.Task.{Task}
-use Rattle.qc_model.specs.Instance.{HasBayLimits, HasBerths, HasPlaceLimits, HasValidApart, HasValidBefore, HasValidCranes, HasValidTasks, InstanceView, IsApart, IsBefore, IsEarlier, IsFrom, IsOnRail, IsPath, Valid, bay_of, crane, no_task, pair_of, release_of, task, ticks_of}
+use Rattle.qc_model.specs.Instance.{HasBayLimits, HasBerths, HasPlaceLimits, HasValidApart, HasValidBefore, HasValidCranes, HasValidTasks, InstanceView, IsBefore, IsEarlier, IsFrom, IsOnRail, IsPath, Valid, bay_of, crane, no_task, pair_of, release_of, task, ticks_of}
 use Rattle.qc_model.specs.Numbers.{most_ready}
 use Rattle.qc_model.specs.Tasks.{task_rank}
 use Rattle.qc_rest.specs.declared.stand.Stand.{Stand}
-use Rattle.qc_rest.specs.Progress.{AreOver, HasBegun, IsLeft, number_of}
+use Rattle.qc_rest.specs.Progress.{AreOver, IsLeft, number_of}
 use Rattle.qc_rest.specs.Rest.{HoldsBack}
 use Rattle.qc_rest.specs.RestOf.{are_left, crane_in, left_tasks, pairs_in, renumbered, rest_of, task_in}
 use Rattle.qc_rest.specs.Stands.{AreStands, stand_of}
 use Rattle.qc_rest.proofs.BegunLemmas.{runs_or_over}
 use Rattle.qc_rest.proofs.NumberLemmas.{count_rises, numbered}
-use Rattle.qc_rest.proofs.RestLemmas.{IsOf, both_left, contains_of, crane_is, left_count, number_low, one_number, release_least, task_is, waits_there}
+use Rattle.qc_rest.proofs.RestLemmas.{both_left, contains_of, crane_is, left_count, number_low, one_number, release_least, task_is, waits_there}
 
 -- ---- sums and lists
 
@@ -298,9 +298,10 @@ module _ (c : Course) (over : ℕ → ℕ) (stands : List Stand) (places : ℕ �
           let passes : are_left c x ≡ true = All-get_or (λ (p : Pair). are_left c p ≡ true) kept i (pair_of 0 0) low (filter_passes (are_left c) pairs) in
           let inside : Contains pairs x = All-get_or (Contains pairs) kept i (pair_of 0 0) low (All-filter (are_left c) (Contains pairs) pairs (All-contains_itself pairs)) in
           let range = tasks x.first x.second inside in
-          let waits = and_parts (is_waiting (stage_of c x.first)) (is_waiting (stage_of c x.second)) passes in
-          (record { task = range.0; waits = waits_there (stage_of c x.first) waits.0 },
-          record { task = range.1; waits = waits_there (stage_of c x.second) waits.1 })
+          let waits = and_parts (is_waiting (stage_of c x.first)) (is_waiting (stage_of c x.second)) passes in (
+            record { task = range.0; waits = waits_there (stage_of c x.first) waits.0 },
+            record { task = range.1; waits = waits_there (stage_of c x.second) waits.1 },
+          )
 
   phases_at : (i j : ℕ) → IsLeft c i → IsLeft c j → number_of c i < number_of c j
       → (task rest (number_of c i)).hatch ≡ (task rest (number_of c j)).hatch → IsBefore rest (number_of c i) (number_of c j)
@@ -323,8 +324,13 @@ module _ (c : Course) (over : ℕ → ℕ) (stands : List Stand) (places : ℕ �
 
   apart_valid : HasValidApart rest
   apart_valid = record {
-    count = omega (arith, length-map (filter (are_left c) c.inst.apart) (renumbered c), length-filter (are_left c) c.inst.apart,
-        count_by-le-length (are_left c) c.inst.apart, valid.apart.count);
+    count = omega (
+      arith,
+      length-map (filter (are_left c) c.inst.apart) (renumbered c),
+      length-filter (are_left c) c.inst.apart,
+      count_by-le-length (are_left c) c.inst.apart,
+      valid.apart.count,
+    );
     range = λ a b is. apart_range a b (pair_is c.inst.apart apart_tasks a b is);
     sorted = sorted_in c.inst.apart apart_tasks valid.apart.sorted;
   }
@@ -332,12 +338,13 @@ module _ (c : Course) (over : ℕ → ℕ) (stands : List Stand) (places : ℕ �
       apart_range : (a b : ℕ) → IsPair c.inst.apart a b
           → (a < b) × (b < length rest.tasks) × ((task rest a).hatch ≢ (task rest b).hatch)
       apart_range a b is =
-          let r = valid.apart.range is.first is.second is.inside in
-          (omega (arith, is.first_is, is.second_is, rises is.first is.second is.here r.0),
-          (low_pair c.inst.apart a b is).1,
-          λ same. r.2 (
-              sym (ap (λ (t : Task). t.hatch) (task_at is.first is.here)) ∙ ap (λ (k : ℕ). (task rest k).hatch) is.first_is ∙ same
-              ∙ sym (ap (λ (k : ℕ). (task rest k).hatch) is.second_is) ∙ ap (λ (t : Task). t.hatch) (task_at is.second is.there)))
+          let r = valid.apart.range is.first is.second is.inside in (
+            omega (arith, is.first_is, is.second_is, rises is.first is.second is.here r.0),
+            (low_pair c.inst.apart a b is).1,
+            λ same. r.2 (
+                sym (ap (λ (t : Task). t.hatch) (task_at is.first is.here)) ∙ ap (λ (k : ℕ). (task rest k).hatch) is.first_is ∙ same
+                ∙ sym (ap (λ (k : ℕ). (task rest k).hatch) is.second_is) ∙ ap (λ (t : Task). t.hatch) (task_at is.second is.there)),
+          )
 
   -- ---- limits
 

@@ -1,5 +1,5 @@
 -- public: the old order gone on with: each task that is left starts as soon as it may, behind those that lead it.
-use Rattle.std.specs.Prelude.{◌≡◌, ℕ, ◌+◌, ◌≤◌, ◌↔◌, if◌then◌else◌}
+use Rattle.std.specs.Prelude.{ℕ, ◌+◌, ◌≤◌, ◌↔◌, if◌then◌else◌}
 use Rattle.qc_dispatch.specs.Course.{Course, is_waiting, stage_of}
 use Rattle.qc_dispatch.specs.Order.{Leads, free_of, gap}
 use Rattle.qc_model.specs.Instance.{ticks_of}

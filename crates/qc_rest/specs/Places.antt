@@ -1,6 +1,6 @@
 -- public: where the cranes of the rest begin: each at the place where it was last, unless the old order has it on its
 -- way by now, or giving way.
-use Rattle.std.specs.Prelude.{◌≡◌, ℕ, ◌+◌, ◌-◌, ◌*◌, ◌/◌, ◌<◌, ◌≤◌, ◌⊎◌, ◌↔◌, ℤ, pos, ◌+ℤ◌, ◌-ℤ◌, ◌≤ℤ◌, List, length}
+use Rattle.std.specs.Prelude.{◌≡◌, ℕ, ◌+◌, ◌-◌, ◌*◌, ◌/◌, ◌<◌, ◌≤◌, ◌⊎◌, ◌↔◌, ℤ, pos, ◌+ℤ◌, ◌≤ℤ◌, List, length}
 use Rattle.std.specs.Int.{div_ceil}
 use Rattle.qc_dispatch.specs.Course.{Course}
 use Rattle.qc_model.specs.Instance.{bay_of}

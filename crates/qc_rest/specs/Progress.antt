@@ -1,5 +1,5 @@
 -- public: how far the work is: which tasks have begun, when these are over, and which are left.
-use Rattle.std.specs.Prelude.{◌≡◌, ℕ, ◌<◌, List, length, take, count_by, Option, Some, IsSome}
+use Rattle.std.specs.Prelude.{◌≡◌, ℕ, ◌<◌, length, take, count_by, Some, IsSome}
 use Rattle.qc_dispatch.specs.declared.stage.Stage.TheVariants.{Waiting, Running}
 use Rattle.qc_dispatch.specs.Course.{Course, end_at, is_waiting, stage_of, start_at}
 

@@ -1,5 +1,5 @@
 -- public: instances that have what is left of the work.
-use Rattle.std.specs.Prelude.{◌≡◌, ℕ, ◌+◌, ◌-◌, ◌<◌, ◌≤◌, ◌⊎◌, ◌↔◌, ℤ, List, length}
+use Rattle.std.specs.Prelude.{◌≡◌, ℕ, ◌+◌, ◌-◌, ◌<◌, ◌≤◌, ◌⊎◌, ℤ, List, length}
 use Rattle.qc_dispatch.specs.declared.stage.Stage.TheVariants.{Running}
 use Rattle.qc_dispatch.specs.Course.{Course, left, stage_of}
 use Rattle.qc_dispatch.specs.Order.{ArePaired}

@@ -37,7 +37,7 @@ fn the_whole_ends_with_the_rest()
         (sched : List Slot) → Keeps c → IsRest c over stands rest → Feasible rest new → IsJoined c over new tasks sched
         → (moment : ℕ) → (ends (with_tasks c.inst tasks) sched ≤ moment)
         ↔ (((j : ℕ) → j < length c.inst.tasks → HasBegun c j → end_of (with_tasks c.inst tasks) sched j ≤ moment)
-          × ((j : ℕ) → IsLeft c j → c.clock + ends rest new ≤ moment)) }
+        × ((j : ℕ) → IsLeft c j → c.clock + ends rest new ≤ moment)) }
 {}
 
 /// Each crane can be at its place by now, and neighbours are the gap apart there.
