@@ -1,0 +1,14 @@
+pub mod NumberLemmas
+pub mod BayLemmas
+pub mod BegunLemmas
+pub mod StandLemmas
+pub mod PairLemmas
+pub mod SoundLemmas
+pub mod LimitLemmas
+pub mod PlaceLemmas
+pub mod OldLemmas
+pub mod LateLemmas
+pub mod RestLemmas
+pub mod EndLemmas
+pub mod ValidLemmas
+pub mod RemainingLemmas

@@ -1,0 +1,9 @@
+pub mod Progress
+pub mod Remaining
+pub mod Stands
+pub mod GoneOn
+pub mod Places
+pub mod Rest
+pub mod RestOf
+pub mod OldOrder
+pub mod Joined

@@ -1,0 +1,26 @@
+-- public: when what runs is over, as far as a log tells.
+use Rattle.std.specs.Prelude.{◌≡◌, ℕ, ◌+◌, ◌-◌, ◌≤◌, Option, None, Some, slice_index_or}
+use Rattle.std.specs.Option.{unwrap_or}
+use Rattle.qc_dispatch.specs.declared.follow.Remaining.{Remaining}
+use Rattle.qc_dispatch.specs.declared.stage.Stage.TheVariants.{Running}
+use Rattle.qc_dispatch.specs.Course.{end_at, stage_of}
+use Rattle.qc_dispatch.specs.Journal.{Journal}
+use Rattle.qc_dispatch.specs.Worked.{begun_at}
+use Rattle.qc_model.specs.Instance.{ticks_of}
+
+-- what is left now of ticks that were reported at some moment; where none were, what is left of the planned length
+abbrev pub left_of : Option Remaining → (now planned_end : ℕ) → ℕ
+left_of None now planned_end = planned_end - now
+left_of (Some reported) now planned_end = reported.ticks - (now - reported.at)
+
+-- the ticks that task i, which runs, still needs
+abbrev pub remaining : Journal → ℕ → ℕ
+remaining j i = left_of (slice_index_or j.remaining i None) j.course.clock (begun_at j.course i + ticks_of j.course.inst i)
+
+-- when task i is over: at its end, or once it has had the ticks that it still needs
+abbrev pub over_at : Journal → ℕ → ℕ
+over_at j i = unwrap_or (end_at j.course i) (j.course.clock + remaining j i)
+
+-- each task that runs needs a tick more at the least: else its end isn't reported yet
+abbrev pub NoneIsDue : Journal → Type 0
+NoneIsDue j = (i start : ℕ) → stage_of j.course i ≡ Running start → 1 ≤ remaining j i
