@@ -2,20 +2,21 @@
 """Runs the built program on files that were spoilt, and reports what must not come.
 
     fuzz/fuzz.py [--program FILE] [--count 200000] [--seed 1] [--workers 2] [--only N] [--keep FOLDER]
-        [--megabytes 512] [--plain]
+        [--megabytes 512] [--plain] [--commands NAMES]
 
 Trial N takes an input (the examples, and every case of crates/qc_rows/data whose words are a command with plain names,
 with the plans, trees and logs that the program makes of them), spoils one of its files or two by bytes, slices, lines,
-numbers, repeats, cuts and pieces of other files, and runs a command on it: `plan` and `free` with few branchings and often
-from a spoilt plan of one's own, the ten others as they are. What a trial does depends on the seed and N alone: `--only N`
+numbers, repeats, cuts and pieces of other files, of bay plans also segments and their parts, and runs a command on it:
+`plan` and `free` with few branchings and often from a spoilt plan of one's own, `odds` with few runs, the others as they are. What a trial does depends on the seed and N alone: `--only N`
 runs it again and prints its files. Reported are
 
 - a run that ends by a signal, writes a line on standard error that doesn't begin with `qc: `, or takes more than ten seconds;
 - a status that the command hasn't, or a report whose first line isn't one of that status;
-- a file changed or made where the status doesn't allow it;
+- a file changed or made where the status doesn't allow it, or that `moves` or `rest` writes otherwise than trials/answers.py
+  works out;
 - `plan` and `free` whose files `check` and `freecheck` don't judge alike (Optimal, Weaker with the same numbers, Infeasible, Bound);
 - a report that isn't, line for line, what trials/answers.py works out (of `plan` and `free` a refusal); with --plain that
-  isn't asked.
+  isn't asked. NAMES are the commands that are taken, with commas between them.
 
 Where both say of a spoilt ship file something else, and one of them that it is no TOML, that is counted apart and printed:
 Python's reader of TOML isn't the program's. The spoilt input of each that is reported is kept in FOLDER. It ends with 1
@@ -42,10 +43,11 @@ HERE = os.path.dirname(os.path.abspath(__file__))
 ROOT = os.path.dirname(HERE)
 sys.path.append(f"{ROOT}/trials")
 
-from answers import ROLES, SEARCHES, answer, read_by, split_words
+from answers import ROLES, SEARCHES, WRITTEN, answer, begins_with, read_by, split_words, written
 from cases import DATA, Case, is_long
-from reference import read_ship
-from tried import add_program, program_of
+from moves import spoilt as spoilt_message
+from reference import instance_of, read_ship
+from tried import add_program, commands_of, program_of
 
 # The statuses that a command may come to here: files are there, the disk has room, memory too.
 SHOWN = {0, 5, 6, 8, 13, 15}
@@ -58,13 +60,16 @@ STATUSES = {
     "show": SHOWN, "sheet": SHOWN, "picture": SHOWN, "report": SHOWN,
     "dispatch": SHOWN | {17},
     "watch": {0, 5, 15, 17, 18},
+    "moves": {0, 15, 19},
+    "odds": SHOWN | {21},
+    "rest": SHOWN | {17, 20},
     "make": {0, 2},
 }
 DONE = {
     "plan": rb"Optimal", "free": rb"Optimal", "check": rb"Optimal|Bound \d+", "freecheck": rb"Optimal|Bound \d+",
     "tasks": rb"task [0-9A-Z-]+ \d+ \d+|total \d+", "show": rb"direction (up|down)", "sheet": rb"sheet [0-9A-Za-z_-]+",
     "picture": rb"<svg .*>", "report": rb"crane,tasks,moves,.*", "dispatch": rb"start \S+ \S+ \d+|now \d+",
-    "watch": rb"Safe \d+", "make": rb"make \d+ \d+ \d",
+    "watch": rb"Safe \d+", "make": rb"make \d+ \d+ \d", "moves": rb"moves \d+", "odds": rb"runs \d+", "rest": rb"now \d+",
 }
 FIRST_LINE = {
     2: rb".+",
@@ -77,13 +82,17 @@ FIRST_LINE = {
     12: rb"Budget",
     13: rb"Broken (Reach|Ready|Travel|Before|Apart|Margin|Berth|OneWay)( [0-9A-Z-]+){1,2}",
     14: rb"Weaker",
-    15: rb"TooLarge (ship|stow|plan|own|log)",
+    15: rb"TooLarge (ship|stow|plan|own|log|past|arrival|departure)",
     17: rb"BadLog (TooMany|Line|UnknownCrane|TimeBack|UnknownTask|NotRunning) \d+",
     18: rb"Breach \d+ \S+ \S+",
+    19: rb"BadBayPlan [A-Za-z]+ (arrival|departure) \d+",
+    20: rb"NoRest (Over|Ready|Bay) \S+",
+    21: rb"BadPast [A-Za-z]+ \d+",
 }
 # How often each command is taken: those that came later more often than the first ones.
 TAKEN = ["plan", "plan", "check", "check", "free", "free", "freecheck", "freecheck", "freecheck", "sheet", "dispatch",
-         "dispatch", "dispatch", "watch", "watch", "watch", "picture", "report", "show", "tasks", "make"]
+         "dispatch", "dispatch", "watch", "watch", "watch", "picture", "report", "show", "tasks", "make", "moves", "moves", "moves",
+         "moves", "odds", "odds", "odds", "rest", "rest", "rest", "rest"]
 NUMBERS = [b"0", b"1", b"2", b"-1", b"9", b"10", b"21", b"60", b"61", b"240", b"241", b"998", b"999", b"1200", b"2001",
            b"6000", b"6001", b"10000", b"10001", b"65535", b"65536", b"1000000", b"1000001", b"2147483647",
            b"4294967295", b"4294967296", b"9223372036854775807", b"9223372036854775808", b"18446744073709551616",
@@ -105,6 +114,8 @@ def read_case(path):
     if parsed is None:
         return None
     found = {role: files[name] for role, name in parsed[0].items() if name in files and len(files[name]) <= 20000}
+    if words[0] == "moves":
+        return found if {"arrival", "departure"} <= set(found) else None
     return found if "ship" in found and ("stow" in found or words[0] == "watch") else None
 
 
@@ -117,6 +128,38 @@ def events_of(plan):
         lines.append(f"done {task}\n")
         now = end
     return "".join(lines).encode()
+
+
+def half_done(plan):
+    """A log in which about half of the tasks end when the plan says, what runs then is told to need some ticks more, and
+    some of these go by."""
+    records = list(csv.reader(io.StringIO(plan.decode())))[1:]
+    events = events_of(plan).decode().splitlines(keepends=True)
+    events = events[:len(events) // 2]
+    done = {line.split()[1] for line in events if line.startswith("done")}
+    now = sum(int(line.split()[1]) for line in events if line.startswith("tick"))
+    running = [task for task, _, start, _ in records if int(start) <= now and task not in done]
+    events += [f"left {task} {9 + 2 * number}\n" for number, task in enumerate(running)] + ["tick 3\n"] * bool(running)
+    return "".join(events).encode()
+
+
+def past_of(plan):
+    """What the tasks of a plan took in three calls: as planned, a fifth longer, and a tenth shorter."""
+    records = list(csv.reader(io.StringIO(plan.decode())))[1:]
+    rows = [f"{call},{task.split('-')[1]},{int(end) - int(start)},{max(1, (int(end) - int(start)) * share // 100)}"
+            for call, share in (("2601", 100), ("2602", 120), ("2603", 90)) for task, _, start, end in records[:20]]
+    return "\n".join(["call,phase,planned,real", *rows, "all,-,100,103", ""]).encode()
+
+
+def keyed(files):
+    """A ship file with the planner's own order and releases for some of the tasks of its list, and that list."""
+    inst = instance_of(read_ship(files["ship"]), files["stow"])
+    names = [task.name for task in inst.tasks]
+    if len(names) < 2:
+        return None
+    keys = f'before = [["{names[0]}", "{names[-1]}"]]\nnot_before = [["{names[-1]}", 37], ["{names[0]}", 5], ["998-LD", 1]]\n'
+    keys = keys.replace(', ["998-LD", 1]', "") if 998 not in read_ship(files["ship"]).hatches else keys
+    return {**files, "ship": keys.encode() + files["ship"]}
 
 
 def places_of(ship, lines):
@@ -150,14 +193,28 @@ def made_files(program, files, folder=None):
                 cranes = [line for line in ran.stdout.decode().splitlines() if line.startswith("crane ")]
                 plans.append((read_file(f"{room}/{command}.csv"), cranes))
     for plan, cranes in plans[:1] + [one for one in plans[1:] if one[0] != plans[0][0]]:
-        yield {"plan": plan, "own": plan, "events": events_of(plan), "places": places_of(files["ship"], cranes), **made}
+        yield {"plan": plan, "own": plan, "events": events_of(plan), "past": past_of(plan), "places": places_of(files["ship"], cranes),
+               **made}
+        yield {"plan": plan, "own": plan, "events": half_done(plan), "past": past_of(plan), **made}
     if not plans:
         yield made
     for role, name in (("own", "own.csv"), ("events", "happened.txt"), ("places", "log.txt"), ("places", "late.txt"),
-                       ("plan", "there-and-back.csv"), ("own", "there-and-back.csv")):
+                       ("plan", "there-and-back.csv"), ("own", "there-and-back.csv"), ("past", "past.csv")):
         if folder and os.path.exists(f"{folder}/{name}"):
             some = {"plan": plans[0][0], "own": plans[0][0]} if plans else {}
             yield {**some, **made, role: read_file(f"{folder}/{name}")}
+
+
+def example_files(program, folder):
+    """All files of an example by their roles, with those that the program makes; its bay plans by themselves; and the
+    same with the keys of the planner's own order and releases."""
+    if os.path.exists(f"{folder}/arrival.edi"):
+        yield {which: read_file(f"{folder}/{which}.edi") for which in ("arrival", "departure")}
+    if os.path.exists(f"{folder}/ship.toml") and os.path.exists(f"{folder}/stow.csv"):
+        files = {"ship": read_file(f"{folder}/ship.toml"), "stow": read_file(f"{folder}/stow.csv")}
+        yield from made_files(program, files, folder)
+        if b"before" not in files["ship"] and keyed(files):
+            yield from made_files(program, keyed(files))
 
 
 def read_file(path):
@@ -171,16 +228,15 @@ def read_inputs(program):
     for name in sorted(os.listdir(f"{ROOT}/examples")):
         folder = f"{ROOT}/examples/{name}"
         if os.path.isdir(folder):
-            files = {"ship": read_file(f"{folder}/ship.toml"), "stow": read_file(f"{folder}/stow.csv")}
-            inputs += made_files(program, files, folder)
+            inputs += example_files(program, folder)
     for command in sorted(ROLES):
-        for path in sorted((DATA / command).iterdir()):
+        for path in sorted((DATA / command).glob("*.case")):
             files = read_case(path)
             if files and files not in found:
                 found.append(files)
     made = {}
     for files in found:
-        if "stow" not in files:
+        if "stow" not in files or "arrival" in files:
             inputs.append(files)
             continue
         pair = files["ship"], files["stow"]
@@ -258,15 +314,18 @@ class Trial:
 
 
 class Trials:
-    def __init__(self, program, inputs, seed, folder, plain):
+    def __init__(self, program, inputs, seed, folder, plain, commands):
         self.program, self.seed, self.folder, self.plain = program, seed, folder, plain
+        known = commands_of(program)
+        self.taken = [command for command in TAKEN if command in known and (not commands or command in commands.split(","))]
         roles = sorted({role for files in inputs for role in files})
-        self.inputs = {command: [files for files in inputs if "stow" in files or command == "watch"] for command in ROLES}
+        self.inputs = {command: [files for files in inputs if begins_with(command) in files
+                                 and ("stow" in files or command in ("watch", "moves"))] for command in ROLES}
         self.pools = {role: [files[role] for files in inputs if role in files] for role in roles}
 
     def make(self, number):
         rand = random.Random(f"{self.seed} {number}")
-        command = rand.choice(TAKEN)
+        command = rand.choice(self.taken)
         if command == "make":
             some = [str(rand.randint(0, 9)), str(rand.randint(1, 12)), str(rand.randint(1, 8))]
             some[rand.randrange(3)] = rand.choice(NUMBERS).decode()
@@ -281,19 +340,25 @@ class Trials:
             if rand.randrange(3):
                 files.pop("plan", None), files.pop(ROLES[command][-1], None)
         else:
-            for role in ROLES[command]:
+            for role in read_by(command, ()):
                 if role not in files or role != "ship" and not rand.randrange(20):
                     files[role] = rand.choice(self.pools[role])
+            for role in WRITTEN.get(command, ()):
+                if rand.randrange(2):
+                    files[role] = b"an older file\n"
+            if command == "odds":
+                more = ["--runs", str(rand.choice([1, 2, 3, 7])), "--seed", str(rand.choice([0, 1, 2147483647]))][:rand.choice([2, 4])]
             if command in ("check", "freecheck") and rand.randrange(3) == 0:
                 minus = True
         roles = [role for role in read_by(command, more) if not (minus and role == "plan")]
-        weighted = roles + roles[2:] if command in ("plan", "free", "check", "freecheck", "dispatch") else roles + roles[1:]
+        weighted = roles + roles[1:] if command in ("show", "sheet", "picture", "report", "watch", "tasks", "moves") else roles + roles[2:]
         files = {role: data for role, data in files.items() if role in roles or role in ROLES[command]}
         if minus:
             files.pop("plan", None)
         spoilt = sorted({rand.choice(weighted) for _ in range(rand.choice([1, 1, 1, 2]))})
         for role in spoilt:
-            files[role] = spoil(rand, files[role], self.pools[role])
+            by_parts = command == "moves" and rand.randrange(2)
+            files[role] = spoilt_message(rand, files[role]) if by_parts else spoil(rand, files[role], self.pools[role])
         return Trial(command, more, files, spoilt, minus)
 
     def run(self, words):
@@ -356,7 +421,8 @@ class Trials:
         if command in SEARCHES:
             wrong = self.judge_search(trial, ran, self.held())
         else:
-            wrong = None if self.held() == trial.files else "files changed"
+            due = trial.files if self.plain or status else {**trial.files, **written(command, trial.files)}
+            wrong = None if self.plain and command in WRITTEN or self.held() == due else "files changed, or written otherwise"
         return wrong or (None if self.plain else self.judge_second(trial, ran))
 
     def judge_second(self, trial, ran):
@@ -399,7 +465,7 @@ def work(args, inputs, first, queue):
     resource.setrlimit(resource.RLIMIT_CORE, (0, 0))
     base = "/dev/shm" if os.path.isdir("/dev/shm") else None
     folder = tempfile.mkdtemp(prefix="qc-fuzz-", dir=base)
-    trials = Trials(args.program, inputs, args.seed, folder, args.plain)
+    trials = Trials(args.program, inputs, args.seed, folder, args.plain, args.commands)
     counts = collections.Counter()
     for number in range(first, args.count, args.workers):
         trial, status, wrong = trials.trial(number)
@@ -441,12 +507,13 @@ def main():
     parser.add_argument("--keep", default="fuzz-reported")
     parser.add_argument("--megabytes", type=int, default=512)
     parser.add_argument("--plain", action="store_true")
+    parser.add_argument("--commands", default="")
     args = parser.parse_args()
     args.program = program_of(args)
     inputs = read_inputs(args.program)
     if args.only is not None:
         with tempfile.TemporaryDirectory() as folder:
-            trials = Trials(args.program, inputs, args.seed, folder, args.plain)
+            trials = Trials(args.program, inputs, args.seed, folder, args.plain, args.commands)
             trial, status, wrong = trials.trial(args.only)
             for role, data in trial.files.items():
                 print(f"--- {role}{' (spoilt)' if role in trial.spoilt else ''}\n{data.decode('utf-8', 'backslashreplace')}")

@@ -1,8 +1,13 @@
 """What a command must answer on files of any bytes, as reference.py, free.py, picture.py and faults.py work it out.
 
 `answer` gives status and report, or None where `plan` or `free` goes on to search; `search_fault` then says what is wrong
-with such an answer. Files are bytes by their roles: `ship`, `stow`, `plan`, `tree`, `freetree`, `own`, `places`, `events`.
+with such an answer. `written` gives the files that `moves` or `rest` writes. Files are bytes by their roles: `ship`, `stow`,
+`plan`, `tree`, `freetree`, `own`, `places`, `events`, `past`, `arrival`, `departure`, and those that are written, `list`,
+`newship`, `newstow`, `neworder`.
 """
+import bayplan
+import replan
+from chances import odds_report
 from faults import list_fault, ring_fault, ship_or_fault
 from free import FreeReader, first_break, freecheck_report, tight_free
 from judges import tight_form
@@ -22,17 +27,29 @@ ROLES = {
     "watch": ["ship", "places"],
     "picture": ["ship", "stow", "plan"],
     "report": ["ship", "stow", "plan"],
+    "moves": ["arrival", "departure", "list"],
+    "odds": ["ship", "stow", "plan", "past"],
+    "rest": ["ship", "stow", "plan", "events", "newship", "newstow", "neworder"],
 }
 SEARCHES = ("plan", "free")
+# What is written by the commands that search nothing.
+WRITTEN = {"moves": ["list"], "rest": ["newship", "newstow", "neworder"]}
 # The word for a file in a report, where it isn't that of its role.
 WORDS = {"freetree": "tree", "events": "log", "places": "log"}
+NUMBERS = {"--nodes": (0, 100_000), "--runs": (1, 10_000), "--seed": (0, 2_147_483_647), "--by": (0, 999_999_999_999)}
+OPTIONS = {"plan": ("--nodes", "--from"), "free": ("--nodes", "--from"), "odds": ("--runs", "--seed", "--by")}
 
 
 def read_by(command, more):
     """The roles of the files that a command reads, in its order."""
     if command in SEARCHES:
         return ["ship", "stow"] + ["own"] * ("--from" in more)
-    return ROLES[command]
+    return [role for role in ROLES[command] if role not in WRITTEN.get(command, ())]
+
+
+def begins_with(command):
+    """The role of the file that a command must have, beside a ship's list where it reads one."""
+    return "arrival" if command == "moves" else "ship"
 
 
 def opened(files):
@@ -62,6 +79,8 @@ def answer(command, files, more=(), minus=False):
     """Status and report; None where `plan` or `free` searches. `minus`: `-` stands in place of the plan."""
     if command == "watch":
         return watched(files)
+    if command in WRITTEN:
+        return whole_answer(command, files)[:2]
     ship, inst, refused = opened(files)
     if refused:
         return refused
@@ -80,12 +99,30 @@ def answer(command, files, more=(), minus=False):
         return drawing(files["stow"], ship, inst, plan, command == "picture")
     role = ROLES[command][-1]
     last = files.get(role)
-    report = {"dispatch": dispatch_report, "check": check_report, "freecheck": freecheck_report}[command]
+    report = {"dispatch": dispatch_report, "check": check_report, "freecheck": freecheck_report}.get(command)
     plan = None if minus else plan
+    if command == "odds":
+        told = {word.removeprefix("--"): int(value) for word, value in zip(more[::2], more[1::2])}
+        return odds_report(inst, plan, last, **told)
     if last is not None:
         return report(inst, plan, last)
     refused = report(inst, plan, b"")
     return refused if refused[0] in (8, 13) else missing(role)
+
+
+def whole_answer(command, files):
+    """Status, report and what is written of `moves` and `rest`."""
+    read = [files.get(role) for role in read_by(command, ())]
+    if command == "moves":
+        status, lines, text = bayplan.answer(*read)
+        return status, lines, None if text is None else [text]
+    return replan.answer(read)
+
+
+def written(command, files):
+    """The files that a command makes that searches nothing, by their roles."""
+    made = whole_answer(command, files)[2] if command in WRITTEN else None
+    return dict(zip(WRITTEN[command], made)) if made else {}
 
 
 def watched(files):
@@ -149,16 +186,18 @@ def split_words(words):
     roles, names, more, rest = ROLES[words[0]], {}, [], words[1:]
     while rest:
         word = rest.pop(0)
-        if word in ("--nodes", "--from") and words[0] in SEARCHES and rest and word not in more:
+        if word in OPTIONS.get(words[0], ()) and rest and word not in more:
             value = rest.pop(0)
-            if word == "--nodes" and not (value.isdigit() and str(int(value)) == value and int(value) <= 100_000):
-                return None
-            if word == "--from":
+            if word in NUMBERS:
+                low, high = NUMBERS[word]
+                if not (value.isdigit() and value.isascii() and str(int(value)) == value and low <= int(value) <= high):
+                    return None
+            else:
                 names["own"] = value
-            more += [word, value if word == "--nodes" else "own"]
+            more += [word, value if word in NUMBERS else "own"]
         elif word.startswith("-") and word != "-" or len(names) - ("own" in names) == len(roles):
             return None
         else:
             names[roles[len(names) - ("own" in names)]] = word
-    is_whole = all(role in names for role in roles) and len(set(names.values())) == len(names)
+    is_whole = all(role in names for role in roles) and (words[0] == "odds" or len(set(names.values())) == len(names))
     return (names, more) if is_whole else None

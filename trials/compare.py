@@ -1,16 +1,18 @@
 #!/usr/bin/env python3
-"""Compares every command of the built program but `make` with the second opinion on random small ships.
+"""Compares every command of the built program but `make` and `moves` with the second opinion on random small ships.
 
     trials/compare.py KEPT [--program FILE] [--first SEED] [--count SHIPS] [--workers N] [--minutes M] [--wide]
+        [--without KEY]
 
-Each seed makes one ship and its list. `tasks`; `plan` and `free` with several numbers of branchings, from nothing, from
-one's own plan and from one that breaks a rule; `check` and `freecheck` on what they wrote, on changed plans, and on
-trees that were changed or made here; `show`, `sheet`, `dispatch`, `picture` and `report` on plans of one way, to and fro,
-slowed and broken; `watch` and `dispatch` on logs, a third of them spoilt. Every report and every file is compared with
-what reference.py, free.py and picture.py work out from the definitions. The search of `free` is made here once more,
-node by node, and where a ship is tiny its end is compared with the least one of all plans, by trying every choice and
-order. Of each difference the files and the two answers are kept in a folder under KEPT. Prints counts and the first
-differences; status 1 where there is any. With `--wide` the ships have 8 to 18 tasks, and least ends aren't known. Which
+Each seed makes one ship and its list. `tasks`; `plan` and `free` with several numbers of branchings, from nothing,
+from one's own plan and from one that breaks a rule; `check` and `freecheck` on what they wrote, on changed plans, and
+on trees that were changed or made here; `show`, `sheet`, `dispatch`, `picture` and `report` on plans of one way, to
+and fro, slowed and broken; `watch`, `dispatch` and `rest` on logs, and `odds` on past tasks, a third of them spoilt.
+Every report and every file is compared with what reference.py, free.py, picture.py, chances.py and replan.py work out
+from the definitions. The search of `free` is made here once more, node by node, and where a ship is tiny its end is
+compared with the least one of all plans, by trying every choice and order. Of each difference the files and the two
+answers are kept in a folder under KEPT. Prints counts and the first differences; status 1 where there is any. With
+`--wide` the ships have 8 to 18 tasks, and least ends aren't known; with `--without KEY` none has that key. Which
 program FILE is, tried.py says.
 """
 import argparse
@@ -28,18 +30,21 @@ from pathlib import Path
 
 sys.dont_write_bytecode = True  # no folder of compiled files beside the scripts
 
+from chances import odds_report
 from faults import ring_fault
 from free import (FreeMotion, FreeNode, FreeReader, FreeSearch, first_break, free_crane_lines, freecheck_report, tight_free)
 from freely import random_part as random_free_part
 from judges import SearchJudge, first_unsafe, given_told, is_tight, tight_form
+from odds import random_past, spoilt_past
 from packed import bare, least_feasible_end
 from picture import answer as drawing, tracks_of
 from reference import (NEVER, TreeFault, TreeReader, bound_text, check_report, crane_lines, direction_of, dispatch_notes,
                        dispatch_report, end_of, instance_of, least_end, motion_of, plan_text, read_log, read_plan, read_ship, refusal,
                        sheet_report, show_report, tasks_report, too_near, watch_report)
-from ships import (Maker, changed_plans, changed_trees, dense_files, happenings, reported, reported_along, slowed,
+from replan import answer as rest_of
+from ships import (KEYS, Maker, add_without, changed_plans, changed_trees, dense_files, happenings, reported, reported_along, slowed,
                    spoilt_happenings, spoilt_places, text_of)
-from tried import add_program, program_of
+from tried import add_program, commands_of, program_of
 
 SEARCHED = 250  # branchings of a tree whose search is made here once more
 TINY = 700      # choices of cranes that are all tried
@@ -106,8 +111,8 @@ def free_trees(inst, text, rng):
 class Case:
     """One ship and list in a folder of their own, and what differs."""
 
-    def __init__(self, program, seed, kept, wide):
-        self.program, self.seed, self.kept, self.wide = program, seed, kept, wide
+    def __init__(self, program, known, seed, kept, wide):
+        self.program, self.known, self.seed, self.kept, self.wide = program, known, seed, kept, wide
         self.rng, self.counts, self.differences = random.Random(seed), Counter(ships=1), []
         base = "/dev/shm" if Path("/dev/shm").is_dir() else None
         self.folder = Path(tempfile.mkdtemp(prefix="compare-", dir=base))
@@ -133,8 +138,8 @@ class Case:
         done = subprocess.run([self.program, *words], cwd=self.folder, capture_output=True, timeout=300)
         lines, self.said = done.stdout.decode().splitlines(), done.stderr.decode().splitlines()
         first = lines[0].split() if lines else [""]
-        kind = " ".join(first[:2] if first[0] in ("Broken", "BadPlan", "BadTree", "BadLog", "direction") else first[:1])
-        kind = kind if words[0] not in ("tasks", "sheet", "dispatch", "picture", "report") or done.returncode else ""
+        kind = " ".join(first[:2] if first[0] in ("Broken", "BadPlan", "BadTree", "BadLog", "BadPast", "NoRest", "direction") else first[:1])
+        kind = kind if words[0] not in ("tasks", "sheet", "dispatch", "picture", "report", "odds", "rest") or done.returncode else ""
         self.counts[f"{words[0]}: {kind} status {done.returncode}"] += 1
         return done.returncode, lines
 
@@ -309,6 +314,30 @@ class Case:
         notes = [line.removeprefix("qc: note: ") for line in self.said if " waits with " in line or " may begin " in line]
         self.counts["notes of what cranes wait for"] += len(notes)
         self.expect("what cranes wait for", notes, dispatch_notes(self.inst, plan, log))
+        if "rest" in self.known:
+            self.rest(plan, log)
+        if "odds" in self.known:
+            self.odds(plan)
+
+    def rest(self, plan, log):
+        """What is left behind the log, and its three files."""
+        names = "new-ship", "new-stow", "new-own"
+        for name in names:
+            (self.folder / name).unlink(missing_ok=True)
+        status, lines, made = rest_of([self.read("ship"), self.read("stow"), plan, log])
+        seen = self.run("rest", "ship", "stow", "plan.csv", "log", *names)
+        self.expect("rest", seen, (status, lines))
+        self.expect("rest: files", [self.read(name) for name in names], made or [None] * 3)
+
+    def odds(self, plan):
+        past, rng = random_past(self.rng, self.inst), self.rng
+        if rng.random() < 0.33:
+            past = spoilt_past(rng, past)
+        self.write("past", past)
+        runs, seed, by = rng.choice((1, 2, 5)), rng.randrange(2 ** 31), rng.randint(0, 200)
+        words = ["--runs", str(runs), "--seed", str(seed), "--by", str(by)]
+        due = odds_report(self.inst, plan, past, runs, seed, by)
+        self.expect("odds", self.run("odds", "ship", "stow", "plan.csv", "past", *words), due)
 
     # ------------------------------------------------ plans to and fro
 
@@ -476,10 +505,10 @@ class Case:
 
 def try_seed(job):
     """The seed, what differs and the counts; nothing where the time is over."""
-    program, seed, kept, wide, last = job
+    program, known, seed, kept, wide, last = job
     if time.monotonic() > last:
         return seed, [], Counter()
-    case = Case(program, seed, kept, wide)
+    case = Case(program, known, seed, kept, wide)
     try:
         case.compare()
     except Exception:  # the second opinion itself stopped
@@ -496,10 +525,13 @@ def main():
     parser.add_argument("--workers", type=int, default=2)
     parser.add_argument("--minutes", type=float, default=1e9)
     parser.add_argument("--wide", action="store_true")
+    add_without(parser)
     words = parser.parse_args()
+    KEYS.difference_update(words.without)
     program, last = program_of(words), time.monotonic() + 60 * words.minutes
     words.kept.mkdir(parents=True, exist_ok=True)
-    jobs = [(program, seed, words.kept, words.wide, last) for seed in range(words.first, words.first + words.count)]
+    known = commands_of(program)
+    jobs = [(program, known, seed, words.kept, words.wide, last) for seed in range(words.first, words.first + words.count)]
     counts, differing = Counter(), []
     with multiprocessing.Pool(words.workers) as pool:
         for seed, found, seen in pool.imap_unordered(try_seed, jobs, 4):

@@ -30,13 +30,13 @@ from pathlib import Path
 sys.dont_write_bytecode = True  # no folder of compiled files beside the scripts
 
 import cases
-from answers import ROLES, SEARCHES, answer, read_by, search_fault, split_words
+from answers import ROLES, SEARCHES, answer, begins_with, read_by, search_fault, split_words, written
 from cases import DATA, ROOT, is_long
 
 sys.path.append(str(ROOT / "fuzz"))
 
-from fuzz import made_files
-from tried import add_program, program_of
+from fuzz import example_files
+from tried import add_program, commands_of, program_of
 
 # The cases of crates/qc_rows/data of which `--write` makes cut cases: the files of the worked examples, a file that
 # several of them share once. The command is that of the new case.
@@ -112,15 +112,12 @@ def read_case(path):
 def read_examples(program):
     """Each example under every command, with the files that the program makes of it."""
     for folder in sorted(path for path in (ROOT / "examples").iterdir() if path.is_dir()):
-        files = {"ship": (folder / "ship.toml").read_bytes(), "stow": (folder / "stow.csv").read_bytes()}
-        for plans in made_files(program, files, folder):
-            for command, roles in ROLES.items():
-                some = {role: plans[role] for role in ["ship", "stow", *roles] if role in plans}
-                if command in SEARCHES:
-                    some = {**files, **{role: plans[role] for role in ("own",) if role in plans}}
-                more = ["--nodes", "100", "--from", "own"] if command in SEARCHES else []
+        for plans in example_files(program, str(folder)):
+            for command in ROLES:
+                more = ["--nodes", "100", "--from", "own"] if command in SEARCHES else ["--runs", "2"] if command == "odds" else []
+                some = {role: plans[role] for role in read_by(command, more) if role in plans}
                 minus = command in ("check", "freecheck") and "plan" not in plans
-                if set(read_by(command, more)) - set(some) <= ({"plan"} if minus else set()):
+                if begins_with(command) in some and set(read_by(command, more)) - set(some) <= ({"plan"} if minus else set()):
                     yield Case(f"examples/{folder.name}", command, more, some, minus)
 
 
@@ -160,8 +157,8 @@ class Runner:
             wrong = search_fault(case.command, case.files, case.more, seen, left)
         elif wrong is None and seen != due:
             wrong = "another answer"
-        elif wrong is None and left != case.files:
-            wrong = "a file changed"
+        elif wrong is None and left != {**case.files, **written(case.command, case.files)}:
+            wrong = "a file changed, or is written otherwise"
         self.counts[case.command, seen[0]] += 1
         if wrong:
             self.counts["differences", 0] += 1
@@ -212,7 +209,8 @@ def run_all(args):
     program = program_of(args)
     cases = [read_case(path)[0] for path in sorted(DATA.glob("*/*.case")) if not is_long(path)]
     cases = [case for case in cases if case] + list(read_examples(program))
-    cases = [case for case in cases if not args.only or case.command in args.only.split(",")]
+    known = commands_of(program)
+    cases = [case for case in cases if case.command in known and (not args.only or case.command in args.only.split(","))]
     jobs, done, totals = multiprocessing.Queue(100), multiprocessing.Queue(), collections.Counter()
     last = time.monotonic() + 60 * args.minutes
     workers = [multiprocessing.Process(target=work, args=(program, args.keep, last, jobs, done)) for _ in range(args.workers)]

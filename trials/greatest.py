@@ -1,5 +1,5 @@
 #!/usr/bin/env python3
-"""Gives the built program the longest logs, the largest trees and files at their limits, and prints what it took.
+"""Gives the built program the longest logs, most past tasks, largest trees and files at their limits, and prints what it took.
 
     trials/greatest.py [--program FILE] [--nodes 100000] [--only WORD]
 
@@ -18,7 +18,7 @@ from pathlib import Path
 
 sys.dont_write_bytecode = True  # no folder of compiled files beside the scripts
 
-from tried import add_program, program_of
+from tried import add_program, commands_of, program_of
 
 ROOT = Path(__file__).resolve().parent.parent
 made = runpy.run_path(str(ROOT / "bench" / "ships.py"))["made"]
@@ -81,10 +81,34 @@ def logs(room):
         rows = [f"{k} C{1 + k % 8} {1 + 2 * (k % 8)}\n" for k in range(count)]
         room.write("w", "".join(rows).encode())
         room.expect(f"{count} reported places", ["watch", "s", "w"], status, first)
+    for number in (100_000, 50_000, 10_000) if "rest" in commands_of(room.program) else ():
+        room.write("h", "".join(line + "\n" for line in lines[:number]).encode())
+        room.expect(f"what is left behind a log of {number} lines", ["rest", "s", "m", "p", "h", "ns", "nm", "o"], 0, None)
     room.write("w", "".join(f"{k} C1 {1 + k % 2}\n" for k in range(199_998)).encode() + b"0 C2 9\n199997 C2 2\n")
     room.expect("200,000 places of two cranes that come too near at the end", ["watch", "s", "w"], 18, None)
     for command in ("sheet", "picture", "report", "show"):
         room.expect("that plan", [command, "s", "m", "p"], 0, None)
+
+
+def chances(room):
+    """The most past tasks and runs, on a plan of 227 tasks and 8 cranes."""
+    ship, rows = made(2, 60, 8)
+    room.write("s", ("\n".join(ship) + "\n").encode()), room.write("m", ("\n".join(rows) + "\n").encode())
+    room.expect("a plan of 60 hatches and 8 cranes", ["plan", "s", "m", "p", "t", "--nodes", "0"], 11, ["Budget"])
+    phases = ("DD", "DH", "LH", "LD", "-")
+    records = "".join(f"c{k // 240},{phases[k % 5]},{100 + k * 37 % 3000},{100 + k * 53 % 3000}\n" for k in range(10_000))
+    room.write("q", ("call,phase,planned,real\n" + records).encode())
+    for runs in (1, 1000, 10_000):
+        room.expect(f"10,000 past tasks, {runs} runs", ["odds", "s", "m", "p", "q", "--runs", str(runs)], 0, [f"runs {runs}"])
+    for what, data, status, first in (
+            ("a record more", ("call,phase,planned,real\n" + records + "c9,-,1,1\n").encode(), 21, ["BadPast TooMany 10002"]),
+            ("blank lines", padded(b"call,phase,planned,real\na,-,1,1\n", b"\n"), 0, ["runs 1000"]),
+            ("commas", padded(b"call,phase,planned,real\n", b","), 21, ["BadPast Fields 2"]),
+            ("one field", padded(b"call,phase,planned,real\n", b"x"), 21, ["BadPast Fields 2"]),
+            ("quotes", padded(b"call,phase,planned,real\n", b'"'), 21, ["BadPast Fields 2"]),
+            ("line feeds and a byte more", padded(b"call,phase,planned,real\n", b"\n") + b"\n", 15, ["TooLarge past"])):
+        room.write("q", data)
+        room.expect(f"past tasks of {len(data):,} bytes, {what}", ["odds", "s", "m", "p", "q"], status, first)
 
 
 def trees(room, nodes):
@@ -158,12 +182,12 @@ def main():
     parser = argparse.ArgumentParser(description="the longest logs, the largest trees, files at their limits")
     add_program(parser)
     parser.add_argument("--nodes", type=int, default=100_000)
-    parser.add_argument("--only", default="", help="logs, trees or limits")
+    parser.add_argument("--only", default="", help="logs, chances, trees or limits")
     words = parser.parse_args()
     program = program_of(words)
     with tempfile.TemporaryDirectory(prefix="greatest-") as folder:
         room = Room(program, folder)
-        for name, part in (("logs", logs), ("limits", limits), ("trees", lambda room: trees(room, words.nodes))):
+        for name, part in (("logs", logs), *[("chances", chances)] * ("odds" in commands_of(program)), ("limits", limits), ("trees", lambda room: trees(room, words.nodes))):
             if words.only in name:
                 part(room)
     print(f"{room.wrong} wrong")

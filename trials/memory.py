@@ -9,7 +9,7 @@ nth refused, once with the nth and all after it. Each run must come to one of
 - `OutOfMemory`, or nothing at all, with status 9 and every file as before the run;
 - the same status, report and files as without a refusal;
 - a fault of the file that was being opened or begun: `ReadFault f` with every file as before, or `WriteFault` with
-  the tree's file as before or whole, the plan's file as before, and no further file.
+  the first so many of its files whole but for the last, all others as before, and no further file.
 
 The program is run with `-q`, and nothing may stand on standard error. With --voice it is run without, and lines may
 stand there that begin with `qc: `.
@@ -30,7 +30,8 @@ import tempfile
 
 sys.dont_write_bytecode = True  # no folder of compiled files beside the scripts
 
-from tried import add_program, program_of
+from inputs import CHANCES, CHANCES_INPUTS, LEFT, LEFT_INPUTS, LISTED, LISTED_INPUTS, OLDER, OUTPUTS
+from tried import add_program, commands_of, program_of
 
 HERE = os.path.dirname(os.path.abspath(__file__))
 ROOT = os.path.dirname(HERE)
@@ -66,6 +67,12 @@ def happened(plan):
         lines += [f"tick {end - now}\n"] * (end > now) + [f"done {task}\n"]
         now = end
     return "".join(lines).encode()
+
+
+def half_done(log):
+    """The first half of a log, and a tick more."""
+    lines = log.splitlines(keepends=True)
+    return b"".join(lines[:len(lines) // 2]) + b"tick 1\n"
 
 
 def places():
@@ -105,6 +112,11 @@ def inputs(program, nodes):
         ("watch", ["watch", "s", "w"], dict(four, w=PLACES)),
         ("picture", ["picture", "s", "m", "p"], judged),
         ("report", ["report", "s", "m", "p"], judged),
+        ("moves", LISTED, LISTED_INPUTS),
+        ("moves over an old file", LISTED, {**LISTED_INPUTS, "v": OLDER["v"]}),
+        ("odds", CHANCES, dict(judged, **CHANCES_INPUTS)),
+        ("rest", LEFT, dict(judged, **LEFT_INPUTS)),
+        ("rest over old files", LEFT, dict(judged, **LEFT_INPUTS, **{name: OLDER[name] for name in OUTPUTS["rest"]})),
         ("make, one hatch", ["make", "0", "1", "1"], {}),
         ("make, three hatches", ["make", "7", "3", "2"], {}),
         ("unknown word", ["work", "s"], {}),
@@ -121,6 +133,8 @@ def inputs(program, nodes):
         ("watch, vessel", ["watch", "s", "w"], {**vessel, **vessel_logs}),
         ("picture, vessel", ["picture", "s", "m", "p"], vessel_judged),
         ("report, vessel", ["report", "s", "m", "p"], vessel_judged),
+        ("odds, vessel", CHANCES, dict(vessel_judged, **CHANCES_INPUTS)),
+        ("rest, vessel", LEFT, dict(vessel_judged, h=half_done(vessel_logs["l"]))),
     ]
 
 
@@ -153,7 +167,7 @@ class Runs:
             return whole, [int(number) for number in file.read().split()]
 
 
-def verdict(ran, whole, files, voice):
+def verdict(ran, whole, files, voice, outputs):
     status, report, left, errors = ran
     if not all(voice and line.startswith(b"qc: ") for line in errors.splitlines()):
         return f"standard error {errors!r}"
@@ -164,10 +178,10 @@ def verdict(ran, whole, files, voice):
     if status == 3 and report.startswith(b"ReadFault ") and left == files:
         return report.decode().strip()
     if status == 4 and report == b"WriteFault\n":
-        before = {name: data for name, data in left.items() if name != "t"} == {name: data for name, data in files.items() if name != "t"}
-        tree, older, made = left.get("t"), files.get("t"), whole[2].get("t")
-        if before and tree in (older, made):
-            return "WriteFault, tree " + ("whole" if tree == made and made != older else "as before")
+        new = [name for name in outputs if left.get(name) == whole[2].get(name) != files.get(name)]
+        is_kept = {**files, **{name: whole[2][name] for name in new}} == left
+        if is_kept and new == list(outputs[:len(new)]) and len(new) < len(outputs):
+            return f"WriteFault, {len(new)} of {len(outputs)} files whole"
     return f"WRONG: status {status}, report {report[:80]!r}, files {sorted(left)}"
 
 
@@ -177,9 +191,12 @@ def refuse_all(job):
     with tempfile.TemporaryDirectory() as folder:
         runs, seen = Runs(program, library, folder, voice), collections.Counter()
         whole, (calls, before_first, before_last) = runs.count(words, files)
+        outputs = [name for name in (OUTPUTS.get(words[0]) or ()) if name in words]
+        outputs = words[4:2:-1] if words[0] in ("plan", "free") else outputs
         for number in range(1, calls + 1):
             for how in ("REFUSE_AT", "REFUSE_FROM"):
-                seen[verdict(runs.run(words, files, **{how: number}), whole, files, voice)] += 1
+                ran = runs.run(words, files, **{how: number})
+                seen[verdict(ran, whole, files, voice, outputs)] += 1
     made = f", {before_first} before the first file was begun, {before_last - before_first} from then to the last, " \
            f"{calls - before_last} after it" if before_first >= 0 else ""
     return f"{name}: status {whole[0]}, {calls} allocations{made}", seen
@@ -197,7 +214,8 @@ def main():
     with tempfile.TemporaryDirectory() as folder:
         library = os.path.join(folder, "refuse.so")
         subprocess.run(["gcc", "-O1", "-shared", "-fPIC", "-o", library, f"{HERE}/refuse.c", "-ldl"], check=True)
-        jobs = [(program, library, args.voice, one) for one in inputs(program, args.nodes) if args.only in one[0]]
+        jobs = [(program, library, args.voice, one) for one in inputs(program, args.nodes)
+                if args.only in one[0] and (one[1][0] in commands_of(program) or one[1][0] == "work")]
         with multiprocessing.Pool(args.workers) as pool:
             for line, seen in pool.imap(refuse_all, jobs):
                 print(line, flush=True)

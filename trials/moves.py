@@ -7,27 +7,26 @@
     moves.py large [--program FILE]
 
 `rows`: each folder in FOLDER has `arrival.edi`, `departure.edi`, `status`, `report`, and `stow.csv` where a list is
-written; bayplan.py must say the same, and where a program is told it too, also of the good ones cut at every byte. `itself`: on random pairs of plans the list of
-bayplan.py turns the first plan into the second with moves that are each legal, what it says of the classes holds word by
-word, on small ones a search of all legal moves finds no shorter list, and a ship's reader takes the list. `pairs`: of
-random pairs in both versions of the message, with all signs, line ends and odds and ends, the program says, to the byte,
-what bayplan.py says, and writes the same list or leaves the file as it was; then of each pair N spoilt ones (bytes, bits,
-segments dropped, doubled, exchanged or moved, numbers), and of every K-th pair each file cut at every byte, which must be
-refused, except where line breaks or blanks alone are missing. What differs is kept below KEPT. `large`: 20,000 containers,
-25,000 and 25,001 of them, files at the limit of bytes, seconds and memory. Status 1 where anything differs. Which program
-FILE is, tried.py says.
+written; bayplan.py must say the same, and where a program is told it too, also of the good ones cut at every byte.
+`itself`: on random pairs of plans the list of bayplan.py turns the first plan into the second with moves that are
+each legal, what it says of the classes holds word by word, on small ones a search of all legal moves finds no shorter
+list, and a ship's reader takes the list. `pairs`: of random pairs in both versions of the message, with all signs,
+line ends and odds and ends, the program says, to the byte, what bayplan.py says, and writes the same list or leaves
+the file as it was; then of each pair N spoilt ones (bytes, bits, segments dropped, doubled, exchanged or moved,
+numbers), and of every K-th pair each file cut at every byte, which must be refused, except where line breaks or
+blanks alone are missing. What differs is kept below KEPT. `large`: 20,000 containers, 25,000 and 25,001 of them,
+files at the limit of bytes, seconds and memory. Status 1 where anything differs. Which program FILE is, tried.py
+says.
 """
 import argparse
 import itertools
 import os
 import random
 import re
-import resource
 import shutil
 import subprocess
 import sys
 import tempfile
-import time
 from collections import Counter
 from pathlib import Path
 
@@ -36,6 +35,7 @@ sys.dont_write_bytecode = True  # no folder of compiled files beside the scripts
 from bayplan import (Segment, answer, cell_text, classes_of, end_of_segment, is_over, list_of, list_text, passed, plain,
                      read_plan, signs_of, slots_of)
 from faults import list_fault, slots
+from greatest import MEASURE
 from reference import read_ship
 from tried import add_program, program_of
 
@@ -547,6 +547,7 @@ def message(body, count):
 
 def large(words):
     program, faults = program_of(words), 0
+    room = Path(tempfile.mkdtemp(prefix="moves-"))
     one = {n: message(stack(n, 1), n) for n in (20_000, 25_000, 25_001)}
     other = {n: message(stack(n, 2), n) for n in (20_000, 25_000, 25_001)}
     wide = message(b"", 0) + b" " * (8_388_608 - len(message(b"", 0)))
@@ -558,14 +559,16 @@ def large(words):
              ("empty segments", held, wide), ("release signs alone", b"UNH+1+BAPLIE'FTX+" + b"?" * 8_388_000, wide),
              ("many elements", b"UNH+1+BAPLIE'" + (b"FTX" + b"+" * 4093 + b"'") * 2040 + b"UNT+2042+1'", wide)]
     for name, arrival, departure in cases:
-        runs = Runs(program, Path("moves-kept"))
-        before, usage = time.time(), resource.getrusage(resource.RUSAGE_CHILDREN)
-        runs.run(name.replace(" ", "-"), arrival, departure)
-        after = resource.getrusage(resource.RUSAGE_CHILDREN)
-        told = after.ru_utime + after.ru_stime - usage.ru_utime - usage.ru_stime
-        print(f"{name}: {told:.2f} s of the program, the largest so far {after.ru_maxrss // 1024} MB")
-        faults += runs.differences
-        runs.close()
+        status, lines, stow = answer(arrival, departure)
+        (room / "a").write_bytes(arrival), (room / "d").write_bytes(departure), (room / "s").unlink(missing_ok=True)
+        call = [sys.executable, "-I", "-S", "-c", MEASURE, "used", program, "-q", "moves", "a", "d", "s"]
+        told = subprocess.run(call, cwd=room, capture_output=True, check=True).stdout.decode().splitlines()
+        its_status, seconds, most = (room / "used").read_text().split()
+        made = (room / "s").read_bytes() if (room / "s").exists() else None
+        right = (int(its_status), told, made) == (status, lines, stow) and int(most) < 512 * 1024
+        faults += not right
+        print(f"{'ok   ' if right else 'WRONG'} {name}: {its_status} {told[0]}; {float(seconds):.2f} s, {int(most) // 1024} MB", flush=True)
+    shutil.rmtree(room)
     return faults
 
 

@@ -3,18 +3,18 @@
 
     odds.py rows [--program FILE]
     odds.py itself [--first SEED] [--count SHIPS]
-    odds.py ships KEPT [--program FILE] [--first SEED] [--count SHIPS]
-    odds.py dispatcher KEPT [--program FILE] [--first SEED] [--count SHIPS]
+    odds.py ships KEPT [--program FILE] [--first SEED] [--count SHIPS] [--without KEY]
+    odds.py dispatcher KEPT [--program FILE] [--first SEED] [--count SHIPS] [--without KEY]
     odds.py words [--program FILE]
 
-`rows`: reports and faults that were worked out by hand, by chances.py and, where a program is told, by it. `itself`: on
-random ships and plans each run's starts are those of a course that ends each task when it is through, they keep all rules
-with the lengths drawn, a tick more of one task ends the run at most a tick later, and exactly for those that lead to an end
-without slack. `ships`: on random ships, plans one way and to and fro and files of past tasks, some spoilt, the program says
-to the byte what chances.py says, and leaves all files. `dispatcher`: the ends of all runs of a call are those at which
-`qc dispatch` stands at last when it is fed a log of the lengths drawn, and its starts are those worked out here. `words`:
-which words are refused. What differs is kept below KEPT. Status 1 where anything differs. Which program FILE is, tried.py
-says.
+`rows`: reports and faults that were worked out by hand, by chances.py and, where a program is told, by it. `itself`:
+on random ships and plans each run's starts are those of a course that ends each task when it is through, they keep
+all rules with the lengths drawn, a tick more of one task ends the run at most a tick later, and exactly for those
+that lead to an end without slack. `ships`: on random ships, plans one way and to and fro and files of past tasks,
+some spoilt, the program says to the byte what chances.py says, and leaves all files. `dispatcher`: the ends of all
+runs of a call are those at which `qc dispatch` stands at last when it is fed a log of the lengths drawn, and its
+starts are those worked out here. `words`: which words are refused. With `--without KEY` no ship has that key. What
+differs is kept below KEPT. Status 1 where anything differs. Which program FILE is, tried.py says.
 """
 import argparse
 import random
@@ -32,7 +32,7 @@ from chances import QUANTILES, Work, draw, lengths_of, odds_report, read_past, u
 from faults import ring_fault
 from free import first_break
 from reference import PHASES, Course, end_of, instance_of, plan_text, read_ship
-from ships import Maker, changed_plans, dense_files, serial_plan
+from ships import KEYS, Maker, add_without, changed_plans, dense_files, serial_plan
 from tried import add_program, program_of
 
 
@@ -435,9 +435,11 @@ def dispatcher(words):
             due = {f"start {task.name} {inst.cranes[crane].name} {start}" for task, (crane, _), start in zip(inst.tasks, planned, starts)}
             if status or {line for line in lines if line.startswith("start ")} != due or lines[-2:] != ["left 0", "running 0"]:
                 kept.differs(seed, files, f"run {number}: dispatch starts otherwise: {status} {lines}\nnot\n{sorted(due)}")
-                continue
+                break
             kept.counts["logs"] += 1
             ends.append(int(lines[-3].removeprefix("now ")))
+        if len(ends) < runs:
+            continue
         files = shipped, listed, text, pasted
         status, lines, *_ = run(kept.program, kept.room, files, ["--runs", str(runs), "--seed", str(seed)])
         rising, end = sorted(ends), end_of(inst, planned)
@@ -477,11 +479,13 @@ def main():
         if name in ("ships", "dispatcher"):
             one.add_argument("kept", metavar="KEPT")
         if name in ("itself", "ships", "dispatcher"):
+            add_without(one)
             one.add_argument("--first", type=int, default=1)
             one.add_argument("--count", type=int, default=300)
         if name != "itself":
             add_program(one)
     words = parser.parse_args()
+    KEYS.difference_update(getattr(words, "without", ()))
     tried = {"rows": rows, "itself": itself, "ships": ships, "dispatcher": dispatcher, "words": words_tried}
     sys.exit(tried[words.what](words) > 0)
 

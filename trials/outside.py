@@ -21,7 +21,8 @@ import time
 
 sys.dont_write_bytecode = True  # no folder of compiled files beside the scripts
 
-from tried import add_program, program_of
+from inputs import CHANCES, CHANCES_INPUTS, LEFT, LEFT_INPUTS, LISTED, LISTED_INPUTS, OLDER, OUTPUTS
+from tried import add_program, commands_of, program_of
 
 ROOT = os.path.dirname(os.path.dirname(os.path.abspath(__file__)))
 SHIP = open(f"{ROOT}/examples/first/ship.toml", "rb").read()
@@ -64,6 +65,8 @@ class Room:
         self.write("p", self.plan), self.write("t", self.tree), self.write("o", self.plan)
         self.write("l", open(f"{ROOT}/examples/first/happened.txt", "rb").read())
         self.write("w", b"0 C1 1\n20 C1 1\n21 C1 2\n")
+        for name, data in {**LISTED_INPUTS, **LEFT_INPUTS, **CHANCES_INPUTS}.items():
+            self.write(name, data)
         return self
 
     def at(self, name):
@@ -160,6 +163,15 @@ def full_disks():
             with open(room.at("disk/out"), "wb") as out:
                 ran = room.run(words, stdout=out)
             expect(f"the disk of the report of {name} has no room at all", ran, 4)
+    for words, path, target, kept in others_written():
+        room = Room().fill()
+        whole = whole_of(room, words)
+        with Disk(room, "16k") as disk:
+            room.write(f"disk/{path}", OLDER[path])
+            fill(disk)
+            ran = room.run(target(f"disk/{path}"))
+            expect(f"{words[0]}: the disk of {path} has no room at all", ran, 4, FAULT, it_is_kept=read(f"{disk}/{path}") == OLDER[path],
+                   the_others_are_whole_or_none=kept(room, whole), no_part_left=not room.parts("disk") + room.parts())
     room = Room()
     with Disk(room, "1m", inodes=1) as disk:
         ran = room.run(["plan", "s", "m", "p", "disk/t"])
@@ -187,6 +199,38 @@ def full_disks():
            no_plan=room.read("p") is None, no_part_left=not room.parts())
 
 
+def known(*some):
+    """Of these words those whose command the program has."""
+    return [words for words in some if words[0] in commands_of(program)]
+
+
+def others_written():
+    """Of each file that `moves` and `rest` write: their words, its name, the words with another name for it, and whether
+    those that are written ahead of it are whole or none, and those behind it none."""
+    for words in known(LISTED, LEFT):
+        for path in OUTPUTS[words[0]]:
+            outputs, at = OUTPUTS[words[0]], words.index(path)
+
+            def target(name, words=words, at=at):
+                return [*words[:at], name, *words[at + 1:]]
+
+            def kept(room, whole, path=path, outputs=outputs):
+                ahead = outputs[:outputs.index(path)]
+                states = [room.read(name) is not None for name in ahead]
+                return (all(room.read(name) in (None, whole[name]) for name in ahead) and sorted(states, reverse=True) == states
+                        and all(room.read(name) is None for name in outputs if name != path and name not in ahead))
+            yield words, path, target, kept
+
+
+def whole_of(room, words):
+    """What the command writes where nothing fails, which is taken away again."""
+    room.run(words)
+    whole = {name: room.read(name) for name in OUTPUTS[words[0]]}
+    for name in whole:
+        os.remove(room.at(name))
+    return whole
+
+
 def no_rights():
     def nobody(room, words):
         return room.run(words, how=["setpriv", "--reuid=65534", "--regid=65534", "--clear-groups"])
@@ -207,6 +251,13 @@ def no_rights():
     ran = nobody(room, PLANNED)
     expect("an older plan that can't be written, as nobody", ran, 4, FAULT, older_tree_kept=room.read("t") == b"an older tree\n",
            older_plan_kept=room.read("p") == b"an older plan\n", no_part_left=not room.parts())
+    for words, path, target, kept in others_written():
+        room = Room().fill()
+        whole = whole_of(room, words)
+        os.chmod(room.path, 0o777)
+        room.write(path, OLDER[path])
+        expect(f"{words[0]}: an older {path} that can't be written, as nobody", nobody(room, words), 4, FAULT,
+               it_is_kept=room.read(path) == OLDER[path], the_others_are_whole_or_none=kept(room, whole), no_part_left=not room.parts())
     for name, word, words in read_ones():
         room = Room().fill()
         os.chmod(room.at(name), 0)
@@ -231,6 +282,27 @@ def kinds_of_files():
     expect("a folder in place of the plan that is to be written", room.run(PLANNED), 4, FAULT, no_tree=room.read("t") is None)
     room = Room()
     expect("a tree in a folder that isn't there", room.run(["plan", "s", "m", "p", "no/t"]), 4, FAULT, no_plan=room.read("p") is None)
+    for words, path, target, kept in others_written():
+        room = Room().fill()
+        whole = whole_of(room, words)
+        os.mkdir(room.at(path))
+        expect(f"{words[0]}: a folder in place of {path} that is to be written", room.run(words), 4, FAULT,
+               it_stays=os.listdir(room.at(path)) == [], no_part_left=not room.parts(),
+               the_others_are_none=all(room.read(name) is None for name in OUTPUTS[words[0]]))
+        os.rmdir(room.at(path))
+        expect(f"{words[0]}: {path} is to be in a folder that isn't there", room.run(target(f"no/{path}")), 4, FAULT,
+               the_others_are_none=all(room.read(name) is None for name in OUTPUTS[words[0]]), no_part_left=not room.parts())
+        expect(f"{words[0]}: {path} is to be /dev/null", room.run(target("/dev/null")), 0, None,
+               the_others_are_whole=all(room.read(name) == whole[name] for name in whole if name != path))
+    room = Room().fill()
+    for words, place, word in ((LISTED, 1, "arrival"), (LISTED, 2, "departure"), (CHANCES, 4, "past"), (LEFT, 4, "log")):
+        if not known(words):
+            continue
+        some = lambda name: [*words[:place], name, *words[place + 1:]]
+        expect(f"/dev/zero as {word} of {words[0]}", room.run(some("/dev/zero")), 15, f"TooLarge {word}\n".encode())
+        status, report = {"arrival": (19, b"BadBayPlan Cut arrival 1\n"), "departure": (19, b"BadBayPlan Cut departure 1\n"),
+                          "past": (21, b"BadPast Header 1\n"), "log": (0, None)}[word]
+        expect(f"/dev/null as {word} of {words[0]}", room.run(some("/dev/null")), status, report)
     room = Room()
     for what, status, report in (("/dev/zero", 15, b"TooLarge ship\n"), ("/dev/urandom", 15, b"TooLarge ship\n"),
                                  ("/dev/null", 5, b"BadShip Missing hatches 0\n"), ("/proc/self/mem", 3, b"ReadFault ship\n")):
@@ -283,6 +355,24 @@ def same_files():
         room = Room()
         expect(f"the plan is {role}, by another path", room.run(["plan", "s", "m", f"./{name}", "t"]), 4, FAULT,
                it_is_kept=room.read(name) == before, no_tree=room.read("t") is None, no_part_left=not room.parts())
+    for words, path, target, kept in others_written():
+        for name in [name for name in words[1:] if name not in OUTPUTS[words[0]]]:
+            for how in ("by another path", "as a link to it"):
+                room = Room().fill()
+                whole, before = whole_of(room, words), room.read(name)
+                if how.startswith("as"):
+                    os.symlink(name, room.at(path))
+                ran = room.run(target(f"./{name}") if how.startswith("by") else words)
+                if how.startswith("as"):
+                    os.remove(room.at(path))
+                expect(f"{words[0]}: {path} is the {name} that is read, {how}", ran, 4, FAULT, it_is_kept=room.read(name) == before,
+                       the_others_are_whole_or_none=kept(room, whole), no_part_left=not room.parts())
+    for one, other in (("y", "x"), ("z", "x"), ("z", "y")) if known(LEFT) else ():
+        room = Room().fill()
+        whole = whole_of(room, LEFT)
+        ran = room.run([word if word != one else f"./{other}" for word in LEFT])
+        expect(f"rest: {one} is {other}, by another path", ran, 4, FAULT,
+               the_first_is_whole_or_none=room.read(other) in (None, whole[other]), no_part_left=not room.parts())
     room = Room()
     expect("the plan is the tree by the same name", room.run(["plan", "s", "m", "t", "t"]), 2, None, no_file=room.read("t") is None)
 
@@ -291,17 +381,21 @@ def judged():
     """Each command with its words, and words that are none."""
     plain = [[command, "s", "m", "p"] for command in ("show", "sheet", "picture", "report")]
     some = [PLANNED, FREED, OWNED, ["check", "s", "m", "p", "t"], ["freecheck", "s", "m", "p", "f"], ["tasks", "s", "m"], *plain,
-            ["dispatch", "s", "m", "p", "l"], ["watch", "s", "w"], ["make", "0", "1", "1"]]
+            ["dispatch", "s", "m", "p", "l"], ["watch", "s", "w"], ["make", "0", "1", "1"], *known(LISTED, LEFT, CHANCES)]
     return [(words[0] + " --from" * ("--from" in words), words) for words in some] + [("usage", [])]
 
 
 def read_ones():
     """Each file that a command reads by its name and word, with the words of the command."""
-    words = {"s": "ship", "m": "stow", "p": "plan", "t": "tree", "f": "tree", "o": "own", "l": "log", "w": "log"}
+    words = {"s": "ship", "m": "stow", "p": "plan", "t": "tree", "f": "tree", "o": "own", "l": "log", "w": "log", "h": "log",
+             "a": "arrival", "d": "departure", "q": "past"}
     for command in (["tasks", "s", "m"], ["check", "s", "m", "p", "t"], ["freecheck", "s", "m", "p", "f"], ["show", "s", "m", "p"],
                     ["sheet", "s", "m", "p"], ["picture", "s", "m", "p"], ["report", "s", "m", "p"],
                     ["dispatch", "s", "m", "p", "l"], ["watch", "s", "w"]):
         yield from ((name, words[name], command) for name in command[1:])
+    for command in known(LISTED, LEFT, CHANCES):
+        names = {"moves": "ad", "rest": "smph", "odds": "smpq"}[command[0]]
+        yield from ((name, words[name], command) for name in names)
     for command in ("plan", "free"):
         more = [command, "s", "m", "q", "x", "--from", "o"]
         yield from ((name, words[name], more) for name in "smo")
@@ -311,7 +405,9 @@ def output():
     for name, words in judged():
         for how in ("/dev/full", "a pipe that nobody reads", "closed"):
             room = Room().fill()
-            older = {file: room.read(file) for file in "smptfolw"}
+            older = {file: room.read(file) for file in "smptfolwadhq"}
+            outputs = OUTPUTS.get(words[0], ()) if words else ()
+            whole = whole_of(room, words) if outputs and outputs[0] in "vx" else {}
             if how == "/dev/full":
                 with open("/dev/full", "wb") as out:
                     ran = room.run(words, stdout=out)
@@ -323,7 +419,8 @@ def output():
                 ran = room.run(words, stdout=writer)
                 os.close(writer)
             expect(f"{name}, standard output is {how}", ran, 141 if "pipe" in how else 4, None,
-                   all_files_whole={file: room.read(file) for file in older} == older, no_part_left=not room.parts())
+                   all_files_whole={file: room.read(file) for file in older} == older, no_part_left=not room.parts(),
+                   what_is_written_is_whole=all(room.read(name) == data for name, data in whole.items()))
     room = Room()
     ran = room.run(PLANNED, before=lambda: (os.close(0), os.close(1), os.close(2)), stdout=None)
     expect("plan, input, output and error closed", ran, 4, None, tree_is_whole=room.read("t") == room.tree,

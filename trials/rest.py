@@ -3,17 +3,17 @@
 
     rest.py rows [--program FILE]
     rest.py itself [--first SEED] [--count SHIPS]
-    rest.py ships KEPT [--program FILE] [--first SEED] [--count SHIPS]
+    rest.py ships KEPT [--program FILE] [--first SEED] [--count SHIPS] [--without KEY]
 
 `rows`: reports, files and refusals that were worked out by hand, by replan.py and, where a program is told, by it.
-`itself`: on random ships, plans one way and to and fro, real lengths and logs cut at random, the files of replan.py are read
-back as what is left, the places are such at which the cranes can be, the old order holds in it, goes the ways of the plan
-and is less than a bay's travel late; and what was done joined with any schedule of the rest, also from other places that can
-be and with later cranes and releases, keeps the rules, judged by these alone, and where it is short moves safely at every
-moment. `ships`: of such ships, some with spoilt logs or plans, the program says and writes, to the byte, what replan.py
-does; and the plans that `plan` and `free` then make of the three files, and those that another order gives, keep the rules
-when joined with what was done. What differs is kept below KEPT. Status 1 where anything differs. Which program FILE is,
-tried.py says.
+`itself`: on random ships, plans one way and to and fro, real lengths and logs cut at random, the files of replan.py
+are read back as what is left, the places are such at which the cranes can be, the old order holds in it, goes the
+ways of the plan and is less than a bay's travel late; and what was done joined with any schedule of the rest, also
+from other places that can be and with later cranes and releases, keeps the rules, judged by these alone, and where it
+is short moves safely at every moment. `ships`: of such ships, some with spoilt logs or plans, the program says and
+writes, to the byte, what replan.py does; and the plans that `plan` and `free` then make of the three files, and those
+that another order gives, keep the rules when joined with what was done. With `--without KEY` no ship has that key.
+What differs is kept below KEPT. Status 1 where anything differs. Which program FILE is, tried.py says.
 """
 import argparse
 import random
@@ -34,7 +34,7 @@ from odds import files_of, random_plan
 from reference import (Course, arcs_up, breaks_up, direction_of, end_of, instance_of, least_starts, plan_text, read_plan,
                        read_ship)
 from replan import Rest, answer, opened
-from ships import changed_plans, happenings, serial_plan, spoilt_happenings
+from ships import KEYS, add_without, changed_plans, happenings, serial_plan, spoilt_happenings
 from tried import add_program, program_of
 
 
@@ -132,7 +132,7 @@ APARTED = plan("2-DD,C1,0,10", "10-DD,C1,18,28")
 PAIR = decks(h2=1, h10=1)
 H2, H6 = decks(h2=2), decks(h6=2)
 NONE, EMPTY = stow(), plan()
-KEYS = ship(keys='restows = "ordered"\napart = [[2, 10]]\nnot_before = [["2-LD", 40], ["14-LD", 5]]\n'
+KEYED = ship(keys='restows = "ordered"\napart = [[2, 10]]\nnot_before = [["2-LD", 40], ["14-LD", 5]]\n'
                  'before = [["14-LD", "10-DD"], ["2-DD", "10-DD"], ["10-DD", "2-LD"]]',
             second='[[crane]]\nname = "C2"\nbay = 4\nready = 30\nfrom = 2\n')
 KEYED_STOW = stow("X,D,0020082,40", "Y,D,100082,40", "X,L,140082,40", "Z,L,020082,40")
@@ -169,7 +169,7 @@ ROWS = [
     (ship(4), decks(h6=1, h10=1, h14=1), plan("6-DD,C2,30,40", "10-DD,C1,8,18", "14-DD,C2,48,58"),
      log("tick 18", "done 10-DD", "tick 22", "done 6-DD", "tick 1"),
      told(41, 1, "crane C1 0 0", "crane C2 2 0", "end 18", "late 1"), None, decks(h14=1), plan("14-DD,C2,8,18")),
-    (KEYS, KEYED_STOW, plan("2-DD,C1,0,10", "2-LD,C1,54,64", "10-DD,C1,42,52", "14-LD,C2,30,40"), log("tick 4"),
+    (KEYED, KEYED_STOW, plan("2-DD,C1,0,10", "2-LD,C1,54,64", "10-DD,C1,42,52", "14-LD,C2,30,40"), log("tick 4"),
      told(4, 3, "running 2-DD C1 6", "crane C1 1 6", "crane C2 4 26", "end 59", "late 0"),
      changed(NEW, apart="[[2, 10]]", before='[["14-LD", "10-DD"], ["10-DD", "2-LD"]]',
              not_before='[["2-LD", 36], ["10-DD", 6], ["14-LD", 6]]', restows='"ordered"', ready1=6, bay2=4, ready2=26, from2=2),
@@ -538,11 +538,13 @@ def main():
             one.add_argument("kept", metavar="KEPT")
             one.add_argument("--plans", type=float, default=0.3, help="of how many the rest is planned")
         if name != "rows":
+            add_without(one)
             one.add_argument("--first", type=int, default=1)
             one.add_argument("--count", type=int, default=1000)
         if name != "itself":
             add_program(one)
     words = parser.parse_args()
+    KEYS.difference_update(getattr(words, "without", ()))
     sys.exit({"rows": rows, "itself": itself, "ships": ships}[words.what](words) > 0)
 
 

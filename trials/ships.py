@@ -6,6 +6,14 @@ from collections import Counter
 from reference import PHASES, Course, Node, TreeFault, TreeReader, bound_text, end_of, plan_text
 
 
+KEYS = {"before", "not_before"}  # those of the planner's own that random ships may have
+
+
+def add_without(parser):
+    """Adds `--without KEY` to the words of a script, for a program that doesn't know a key yet."""
+    parser.add_argument("--without", choices=sorted(KEYS), action="append", default=[], help="ships haven't this key")
+
+
 # ---------------------------------------------------------------- random ships and lists
 
 class Maker:
@@ -66,9 +74,9 @@ class Maker:
         if rng.random() < 0.2:
             keys.append('port = "X"')
         if rng.random() < 0.4:
-            keys.append(f"before = {asked_pairs(rng, self.hatches, self.doing)}")
+            keys += ["before = " + str(asked_pairs(rng, self.hatches, self.doing))] * ("before" in KEYS)
         if rng.random() < 0.4:
-            keys.append(f"not_before = {releases(rng, self.hatches, self.doing, self.large)}")
+            keys += ["not_before = " + str(releases(rng, self.hatches, self.doing, self.large))] * ("not_before" in KEYS)
         rng.shuffle(keys)
         cranes = self.crane_tables()
         if rng.random() < 0.2:
@@ -160,9 +168,9 @@ def dense_files(rng):
             f'deck_move = {rng.randint(1, 10)}\nhold_move = {rng.randint(1, 10)}\nrestows = "ordered"\n')
     doing = rng.sample([(hatch, phase) for hatch in hatches for phase in PHASES], rng.randint(2, 5))
     if rng.random() < 0.3:
-        ship += f"before = {asked_pairs(rng, hatches, doing)}\n"
+        ship += f"before = {asked_pairs(rng, hatches, doing)}\n" * ("before" in KEYS)
     if rng.random() < 0.3:
-        ship += f"not_before = {releases(rng, hatches, doing, False)}\n"
+        ship += f"not_before = {releases(rng, hatches, doing, False)}\n" * ("not_before" in KEYS)
     bay = rng.choice((1, 1, 2))
     for name in ("C1", "C2", "C3")[:rng.choice((1, 2, 2, 2, 3))]:
         late = f"ready = {rng.randint(1, 25)}\n" if rng.random() < 0.4 else ""

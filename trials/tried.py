@@ -7,6 +7,7 @@ it is, by where it stands, is said in one line on standard error. Where it isn't
 the script ends with 1.
 """
 import os
+import subprocess
 import sys
 from pathlib import Path
 
@@ -32,3 +33,9 @@ def program_of(words):
                  "the one compiled with checks")
     print(f"{script}: takes {program}, {KINDS.get(program, 'a file')}", file=sys.stderr, flush=True)
     return str(program)
+
+
+def commands_of(program):
+    """The commands that a program has, as its usage names them; a trial leaves out what it hasn't."""
+    lines = subprocess.run([program, "-q"], capture_output=True, text=True, timeout=100).stdout.splitlines()
+    return {line.split()[1] for line in lines if line.startswith("qc ") and len(line.split()) > 1}

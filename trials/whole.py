@@ -5,15 +5,17 @@
 
 prints a line for each kind of trial: `ok` or `WRONG`, what was tried, and what was seen. The kinds are
 
-- `plan`, also from one's own plan, and `free` are killed at each call of the system by which they open, read, write, store,
-  rename or remove a file, without older files and over older ones, and each of these calls fails: TREE is as before or
-  whole, and PLAN is as before, or TREE is whole and PLAN too; each is stored before it is renamed, and where one of both
-  fails, the status is that of a failed write;
+- `plan`, also from one's own plan, `free`, `moves` and `rest` are killed at each call of the system by which they open, read,
+  write, store, rename or remove a file, without older files and over older ones, and each of these calls fails: each file
+  is as before or whole, and none is whole where one that is written ahead of it isn't (TREE is ahead of PLAN; the new ship
+  file, the new list and the old order come in this order); each is stored before it is renamed, and where one of both fails,
+  the status is that of a failed write;
 - the commands that read alone are killed at each of these calls, and each fails: all files are as before;
 - two runs with different ships write the same TREE and PLAN at once, N times (300), `plan` or `free` each: each file is
   one of both, whole;
 - TREE or PLAN is a link to a file, to another link, to no file yet or to a device, `/dev/full`, `/dev/stdout`,
-  `/dev/fd/1`, a pipe, a `>(..)` of bash, a file below `/proc/self/cwd`, an empty name;
+  `/dev/fd/1`, a pipe, a `>(..)` of bash, a file below `/proc/self/cwd`, an empty name; and what `moves` and `rest` write is
+  a link, `/dev/full` or `/dev/stdout`;
 - rights and owner of the files that are replaced, parts that were left behind, long names.
 
 It needs Linux, bash, strace and, for the owner, root. It ends with 1 where anything else came than was wanted. Which
@@ -33,15 +35,16 @@ import time
 
 sys.dont_write_bytecode = True  # no folder of compiled files beside the scripts
 
-from tried import add_program, program_of
+from inputs import CHANCES, CHANCES_INPUTS, LEFT, LEFT_INPUTS, LISTED, LISTED_INPUTS, OLDER, OUTPUTS
+from tried import add_program, commands_of, program_of
 
 ROOT = os.path.dirname(os.path.dirname(os.path.abspath(__file__)))
 CALLS = ["openat", "read", "write", "fsync", "rename", "unlink", "close", "statx", "chown", "fchmod"]
 PLANNED = ["plan", "s", "m", "p", "t"]
 FREED = ["free", "s", "m", "p", "t"]
-OLDER = {"t": b"an older tree\n", "p": b"an older plan\n"}
 FAULT = b"WriteFault\n"
-KINDS = {"t": "tree", "p": "plan"}
+KINDS = {"t": "tree", "p": "plan", "v": "list", "x": "new ship", "y": "new list", "z": "old order"}
+FIRST_WORDS = {"plan": ("Optimal", "Budget"), "free": ("Optimal", "Budget"), "moves": ("moves",), "rest": ("now",)}
 wrong = 0
 
 
@@ -114,17 +117,22 @@ def calls_of(program, inputs, older, words, others):
         return collections.Counter(re.findall(r"^(\w+)\(", room.read("log").decode(errors="replace"), re.MULTILINE))
 
 
-def judge(left, older, whole, others):
-    """What a stopped run left, or None where it may not be left."""
+def judge(left, older, whole, others, outputs):
+    """What a stopped run left, or None where it may not be left: of its files, the first so many are whole."""
     before = {name: OLDER[name] for name in older}
-    tree, plan = left.get("t"), left.get("p")
     if any(left.get(name) != data for name, data in others.items()):
         return None
-    if any(not re.fullmatch(r"[tp]\.part[1-9]?", name) for name in left.keys() - others.keys() - {"t", "p"}):
+    if any(not re.fullmatch(f"[{''.join(outputs)}]\\.part[1-9]?", name) for name in left.keys() - others.keys() - set(outputs)):
         return None
-    tree_is = "as before" if tree == before.get("t") else "whole" if tree == whole["t"] else None
-    plan_is = "as before" if plan == before.get("p") else "whole" if plan == whole["p"] and tree_is == "whole" else None
-    return None if tree_is is None or plan_is is None else f"tree {tree_is}, plan {plan_is}"
+    states = ["as before" if left.get(name) == before.get(name) else "whole" if left.get(name) == whole[name] else None
+              for name in outputs]
+    if None in states or sorted(states, reverse=True) != states:
+        return None
+    return ", ".join(f"{KINDS[name]} {state}" for name, state in zip(outputs, states))
+
+
+def all_of(outputs, state):
+    return ", ".join(f"{KINDS[name]} {state}" for name in outputs)
 
 
 def injected(program, inputs, words, others, older, what):
@@ -139,11 +147,11 @@ def injected(program, inputs, words, others, older, what):
 
 
 def kills(program, name, inputs, words, others):
-    whole = planned(program, inputs, words, others)
-    for older in ((), ("p",), ("t", "p")):
+    whole, outputs = planned(program, inputs, words, others), OUTPUTS[words[0]]
+    for older in dict.fromkeys(((), outputs[1:], outputs)):
         seen, bad, kept = collections.Counter(), [], 0
         for call, number, _, left in injected(program, inputs, words, others, older, "signal=KILL"):
-            what = judge(left, older, whole, others)
+            what = judge(left, older, whole, others, outputs)
             kept += any(".part" in one for one in left)
             seen[what] += 1
             if what is None:
@@ -157,16 +165,16 @@ def failures(program, name, inputs, words, others):
     """Each call fails: the run comes to ReadFault or WriteFault, or to its answer with both files whole, with 4 where the
     report is cut or a file couldn't be stored or renamed; or, where the program couldn't be loaded, to an end by the
     system's loader."""
-    whole = planned(program, inputs, words, others)
-    for older in ((), ("t", "p")):
+    whole, outputs, done = planned(program, inputs, words, others), OUTPUTS[words[0]], FIRST_WORDS[words[0]]
+    for older in ((), outputs):
         seen, bad = collections.Counter(), []
         for call, number, ran, left in injected(program, inputs, words, others, older, "error=EIO"):
-            what = judge(left, older, whole, others)
+            what = judge(left, older, whole, others, outputs)
             first = (ran.stdout or b"").split(b"\n")[0].split(b" ")[0].decode(errors="replace")
-            kinds = {0: ("Optimal",), 3: ("ReadFault",), 4: ("WriteFault", "", "Optimal", "Budget"), 11: ("Budget",), 127: ("",)}
+            kinds = {0: done[:1], 3: ("ReadFault",), 4: ("WriteFault", "", *done), 11: ("Budget",), 127: ("",)}
             right = what and first in kinds.get(ran.returncode, ()) and (
-                first not in ("Optimal", "Budget") or what == "tree whole, plan whole") and (
-                ran.returncode not in (3, 127) or what == "tree as before, plan as before") and (
+                first not in done or what == all_of(outputs, "whole")) and (
+                ran.returncode not in (3, 127) or what == all_of(outputs, "as before")) and (
                 call not in ("fsync", "rename") or ran.returncode == 4)
             seen[f"{ran.returncode} {first}".strip() + f", {what}"] += 1
             if not right or any(".part" in one for one in left) and call not in ("unlink", "close"):
@@ -180,16 +188,17 @@ def stored(program, name, inputs, words, others):
     with Room(program, inputs, (), others) as room:
         room.run(words, ["strace", "-o", "log", "-e", "trace=fsync,rename"])
         calls = re.findall(r"^(\w+)\(", room.read("log").decode(errors="replace"), re.MULTILINE)
-    told(f"{name}, what puts its files in their places", calls == ["fsync", "rename"] * 2, ", ".join(calls))
+    told(f"{name}, what puts its files in their places", calls == ["fsync", "rename"] * len(OUTPUTS[words[0]]),
+         ", ".join(calls))
 
 
 def readers(program, inputs, whole):
     """The commands that write no file: killed at each call, and each call fails."""
     others = {"p": whole["p"], "t": whole["t"], "f": planned(program, inputs, FREED)["t"], "w": b"0 C1 1\n21 C1 2\n",
-              "l": read(f"{ROOT}/examples/first/happened.txt")}
+              "l": read(f"{ROOT}/examples/first/happened.txt"), **CHANCES_INPUTS}
     shown = [[command, "s", "m", "p"] for command in ("show", "sheet", "picture", "report")]
     for words in (["check", "s", "m", "p", "t"], ["freecheck", "s", "m", "p", "f"], ["tasks", "s", "m"], *shown,
-                  ["dispatch", "s", "m", "p", "l"], ["watch", "s", "w"]):
+                  ["dispatch", "s", "m", "p", "l"], ["watch", "s", "w"], *[CHANCES] * ("odds" in commands_of(program))):
         seen, bad = collections.Counter(), []
         for what in ("signal=KILL", "error=EIO"):
             for call, number, ran, left in injected(program, inputs, words, others, (), what):
@@ -310,6 +319,34 @@ def names_of_the_system(program, inputs, whole):
                 name in ("t", "p") and data == whole[name] for name, data in room.left().items()))
 
 
+def links_of_others(program, inputs, words, others):
+    """What `moves` and `rest` write is a link, or a device."""
+    command, outputs, whole = words[0], OUTPUTS[words[0]], planned(program, inputs, words, others)
+    with Room(program, inputs, (), others) as room:
+        report = room.run(words).stdout
+    for path in outputs:
+        for there in (True, False):
+            with Room(program, inputs, (), others) as room:
+                os.mkdir(room.at("folder"))
+                if there:
+                    room.write("folder/f", b"an older file\n")
+                os.symlink("folder/f", room.at(path))
+                ran = room.run(words)
+                facts(f"{command}: the {KINDS[path]} is a link to {'an older file' if there else 'no file yet'} in a folder", ran, 0, report,
+                      the_link_stays=os.path.islink(room.at(path)), the_file_is_whole=room.read("folder/f") == whole[path],
+                      nothing_else_is_left=os.listdir(room.at("folder")) == ["f"],
+                      the_others_are_whole=all(room.read(name) == whole[name] for name in outputs if name != path))
+        at, ahead = words.index(path), outputs[:outputs.index(path)]
+        with Room(program, inputs, (), others) as room:
+            ran = room.run([*words[:at], "/dev/full", *words[at + 1:]])
+            facts(f"{command}: the {KINDS[path]} is /dev/full", ran, 4, FAULT,
+                  those_ahead_whole_or_none=all(room.read(name) in (None, whole[name]) for name in ahead),
+                  those_behind_none=all(room.read(name) is None for name in outputs if name != path and name not in ahead))
+        with Room(program, inputs, (), others) as room:
+            ran = room.run([*words[:at], "/dev/stdout", *words[at + 1:]])
+            facts(f"{command}: the {KINDS[path]} is /dev/stdout, a pipe", ran, 0, whole[path] + report)
+
+
 # ---------------------------------------------------------------- rights, parts, names
 
 def rights(program, inputs, whole):
@@ -366,14 +403,18 @@ def main():
     names_of_the_system(program, inputs, whole)
     rights(program, inputs, whole)
     parts(program, inputs, whole)
-    own = {"o": whole["p"]}
+    own, made = {"o": whole["p"]}, {**LEFT_INPUTS, "p": whole["p"]}
+    further = [("moves of two bay plans", inputs, LISTED, LISTED_INPUTS), ("rest of the first example", inputs, LEFT, made)]
+    further = [one for one in further if one[2][0] in commands_of(program)]
+    for _, files, words, others in further:
+        links_of_others(program, files, words, others)
     for name, files, words, others in (
             ("plan of the first example", inputs, PLANNED, {}),
             ("plan of the first example from one's own", inputs, [*PLANNED, "--from", "o"], own),
             ("free of the first example", inputs, FREED, {}),
             ("free of the first example from one's own", inputs, [*FREED, "--from", "o"], own),
             ("free of what goes to and fro", example("to-and-fro"), FREED, {}),
-            ("plan of the vessel, 30 branchings", example("vessel"), [*PLANNED, "--nodes", "30"], {})):
+            ("plan of the vessel, 30 branchings", example("vessel"), [*PLANNED, "--nodes", "30"], {}), *further):
         stored(program, name, files, words, others)
         kills(program, name, files, words, others)
         failures(program, name, files, words, others)

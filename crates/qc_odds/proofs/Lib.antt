@@ -13,3 +13,9 @@ pub mod TallyLemmas
 pub mod KeptLemmas
 pub mod CriticalLemmas
 pub mod MarkLemmas
+pub mod AddLemmas
+pub mod WorseLemmas
+pub mod SumLemmas
+pub mod OverLemmas
+pub mod SameLemmas
+pub mod SimulatedLemmas

@@ -8,3 +8,11 @@ pub mod Tally
 pub mod Moments
 pub mod Order
 pub mod Kept
+pub mod Runs
+pub mod Sums
+pub mod Small
+pub mod Added
+pub mod Watched
+pub mod Behind
+pub mod Odds
+pub mod Simulated

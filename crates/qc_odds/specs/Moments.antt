@@ -17,3 +17,11 @@ most_moment = moment_by most_tasks
 -- no start is later than all tasks can be, one after the other
 pub record AreSoon (starts : List ℕ) : Type 0 where
   pub each_one : AreEarly starts most_moment
+
+-- no task ends later than this
+abbrev pub most_end : ℕ
+most_end = most_moment + most_length
+
+-- no crane waits longer at its tasks in a run
+abbrev pub most_held : ℕ
+most_held = most_tasks * most_moment

@@ -1,14 +1,16 @@
 //! A plan that is tried with other lengths each time.
 
-ghost use Rattle.std.specs.Prelude.{◌≡◌, IfOk, length, replicate};
+ghost use Rattle.std.specs.Prelude.{◌≡◌, ◌≤◌, IfOk, length, replicate};
 ghost use Rattle.qc_model.specs.Rules.{Feasible};
 ghost use Rattle.qc_dispatch.specs.Marks.{AreMarks};
 ghost use Rattle.qc_odds.specs.Course.{AreStarts, IsLastEnd};
 ghost use Rattle.qc_odds.specs.Critical.{AreMarked};
 ghost use Rattle.qc_odds.specs.Lengths.{AreLengths};
-ghost use Rattle.qc_odds.specs.Moments.{AreSoon};
+ghost use Rattle.qc_odds.specs.Moments.{AreSoon, most_end, most_held};
 ghost use Rattle.qc_odds.specs.Order.{AreTurns};
+ghost use Rattle.qc_odds.specs.Runs.{crane_end, held};
 
+use crate::crane_run::{crane_end, held};
 use crate::critical::mark_critical;
 use crate::order::{PlannedStart, turns_of};
 use crate::pass::work;
@@ -155,6 +157,45 @@ impl Course {
             last,
             marked,
         );
+    }
+
+    /// When a crane is through with its tasks in the run that had these lengths; 0 where it has none.
+    pub fn crane_end(&self, lengths: &[Tick], crane: u16) -> Tick
+        requires lengths { AreLengths self.now.inst lengths.now }
+        requires soon { AreSoon self.now.starts }
+        ensures ticks { result ≡ crane_end self.now.inst self.now.plan lengths.now self.now.starts crane }
+        ensures bound { result ≤ most_end }
+    {
+        crane_end(
+            &self.inst,
+            self.slots.as_slice(),
+            lengths,
+            self.starts.as_slice(),
+            crane,
+        )
+    }
+
+    /// For how many ticks a crane stood at its tasks and waited in the run that had these lengths.
+    pub fn held(&self, lengths: &[Tick], crane: u16) -> Tick
+        requires lengths { AreLengths self.now.inst lengths.now }
+        requires soon { AreSoon self.now.starts }
+        ensures ticks { result ≡ held self.now.inst self.now.plan lengths.now self.now.starts crane }
+        ensures bound { result ≤ most_held }
+    {
+        held(
+            &self.inst,
+            self.slots.as_slice(),
+            lengths,
+            self.starts.as_slice(),
+            crane,
+        )
+    }
+
+    /// The instance of the plan.
+    pub fn instance(&self) -> &Instance
+        ensures { result.now ≡ self.now.inst }
+    {
+        &self.inst
     }
 
     /// The starts of the tasks, as the plan was last worked.

@@ -9,16 +9,25 @@
 #![tactic(auto)]
 
 mod course;
+mod crane_run;
 mod critical;
 mod draws;
 mod laws;
+mod odds;
 mod order;
 mod pass;
 mod pool;
 mod run_lengths;
+mod simulation;
+mod sums;
 mod tally;
+mod watched;
 
 pub use course::Course;
 pub use draws::draw;
+pub use odds::Odds;
 pub use run_lengths::lengths;
+pub use simulation::{MOST_RUNS, simulate};
+pub use sums::{CraneSum, TaskSum};
 pub use tally::Tally;
+pub use watched::MOST_WATCHED;

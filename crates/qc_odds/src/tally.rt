@@ -1,9 +1,10 @@
 //! The ends of many runs, and what they say.
 
 ghost use Rattle.std.specs.Prelude.{◌≡◌, ℕ, ◌+◌, ◌<◌, ◌≤◌, ◌^◌, [], ◌∷◌, ◌++◌, IfOk, length, sum};
+ghost use Rattle.std.specs.Ordering.{nat_cmp};
 ghost use Rattle.std.specs.Int.{div_ceil};
-ghost use Rattle.std.specs.List.Sorted.{IsPermutation};
-ghost use Rattle.qc_odds.specs.Tally.{IsDoneBy, chance, ends_by, share};
+ghost use Rattle.std.specs.List.Sorted.{IsPermutation, IsSorted};
+ghost use Rattle.qc_odds.specs.Tally.{chance, done_at, ends_by};
 
 use qc_num::{OutOfMemory, Tick};
 use std::alloc::Global;
@@ -25,6 +26,13 @@ impl Model for Tally {
 }
 
 impl Tally {
+    /// No run is over, and there is room for none.
+    pub(crate) fn empty(alloc: Global) -> Tally {
+        Tally {
+            ends: Vec::new(alloc),
+        }
+    }
+
     /// No run is over; there is room for so many.
     pub fn open(alloc: Global, runs: u16) -> Result<Tally, OutOfMemory>
         ensures ends { IfOk result (λ tally. tally.ends ≡ []) }
@@ -41,6 +49,14 @@ impl Tally {
         ensures room { self.new.room ≡ self.old.room }
     {
         self.ends.push_reserved(end);
+    }
+
+    /// How many runs are over.
+    pub fn runs(&self) -> u16
+        requires { length self.now.ends ≤ 10000 }
+        ensures { result ≡ length self.now.ends }
+    {
+        self.ends.len() as u16
     }
 
     /// The mean of the ends, rounded up.
@@ -63,31 +79,25 @@ impl Tally {
         (1000 * kept / self.ends.len()) as u16
     }
 
-    /// The first tick by which so many hundredths of the runs are over, their number rounded up. The ends are sorted
-    /// behind it.
-    pub fn done_by(&mut self, percent: u16) -> Tick
-        requires some { 1 ≤ length self.old.ends }
-        requires few { length self.old.ends ≤ 10000 }
+    /// Sorts the ends, the earliest first.
+    pub fn sort(&mut self)
+        ensures same { IsPermutation self.old.ends self.new.ends }
+        ensures sorted { IsSorted nat_cmp self.new.ends }
+    {
+        self.ends.as_mut_slice().sort_unstable();
+    }
+
+    /// The first tick by which so many hundredths of the runs are over, their number rounded up, where the ends are sorted.
+    pub fn done_by(&self, percent: u16) -> Tick
+        requires some { 1 ≤ length self.now.ends }
+        requires few { length self.now.ends ≤ 10000 }
         requires least { 1 ≤ percent }
         requires most { percent ≤ 100 }
-        ensures done { IsDoneBy self.old.ends (share percent (length self.old.ends)) result }
-        ensures same { IsPermutation self.old.ends self.new.ends }
-        ensures room { self.new.room ≡ self.old.room }
+        ensures { result ≡ done_at self.now.ends percent }
     {
         let count = (percent as usize * self.ends.len()).div_ceil(100);
-        first_by(self.ends.as_mut_slice(), count)
+        self.ends.as_slice()[count - 1]
     }
-}
-
-/// The first tick by which so many of these ends have come. They are sorted behind it.
-fn first_by(ends: &mut [Tick], count: usize) -> Tick
-    requires some { 1 ≤ count }
-    requires few { count ≤ length ends.old }
-    ensures done { IsDoneBy ends.old count result }
-    ensures same { IsPermutation ends.old ends.new }
-{
-    ends.sort_unstable();
-    ends[count - 1]
 }
 
 /// How many of these ends come by a tick.

@@ -45,7 +45,7 @@ fn is_call(bytes: &[u8]) -> bool
 
 impl CallName {
     /// The name with these bytes; `None` exactly where they aren't a call's name.
-    pub(crate) fn of(bytes: &[u8]) -> Option<CallName>
+    pub fn of(bytes: &[u8]) -> Option<CallName>
         ensures call { IsSome result ↔ IsTrue (is_call bytes.now) }
         ensures bytes { IfSome result (λ name. name ≡ bytes.now) }
     {

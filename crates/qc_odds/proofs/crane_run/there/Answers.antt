@@ -1,0 +1,17 @@
+use Rattle.std.proofs.Common.{◌≡◌, ◌∙◌, ℕ, max, map, ap, arith}
+use Rattle.std.specs.List.{range_with_len}
+use Rattle.qc_dist.proofs.Ranges.{greatest_more}
+use Rattle.qc_model.specs.Instance.{bay_of}
+use Rattle.qc_model.specs.Nodes.{greatest}
+use Rattle.qc_model.specs.Rules.{crane_of}
+use Rattle.qc_model.specs.Ticks.{arrival}
+use Rattle.qc_odds.specs.Runs.{there, there_from}
+use Rattle.qc_odds.proofs.crane_run.there.Goals as goal
+
+pub loop-i-preserved : goal.loop-i-preserved
+loop-i-preserved c =
+    omega (arith, greatest_more (there_from c.args.inst.now c.args.slots.now c.args.lengths.now c.args.starts.now c.args.j) c.loop-i.i)
+
+pub returns : goal.returns
+unfolding there
+returns c = grind (arith)
