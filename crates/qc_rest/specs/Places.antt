@@ -1,5 +1,5 @@
--- public: where the cranes of the rest begin: each at the place where it was last, unless the old order has it on its
--- way by now, or giving way.
+-- public: where the cranes of the rest begin. A crane that nothing calls away begins at its last place; one whose next
+-- task of the old order is near in time has gone towards it, and one in the way of another has moved aside.
 use Rattle.std.specs.Prelude.{◌≡◌, ℕ, ◌+◌, ◌-◌, ◌*◌, ◌/◌, ◌<◌, ◌≤◌, ◌⊎◌, ◌↔◌, ℤ, pos, ◌+ℤ◌, ◌≤ℤ◌, List, length}
 use Rattle.std.specs.Int.{div_ceil}
 use Rattle.qc_dispatch.specs.Course.{Course}

@@ -22,9 +22,10 @@ ghost use Rattle.qc_rest.specs.Rest.{IsExactRest, IsRest};
 ghost use Rattle.qc_rest.specs.RestOf.{rest_of};
 ghost use Rattle.qc_rest.specs.Stands.{AreStands, CanBeAt, stand_of};
 
-/// Every feasible schedule of the rest, put behind what was done, is a feasible schedule of the whole, with the lengths
-/// that tasks took or are known to take. The rest may ask for more than it must, its cranes may begin wherever they can
-/// be by now, and what runs may be over sooner.
+/// Whoever plans the rest plans the whole: a feasible schedule of what is left, begun now, and the starts that were made
+/// before it are together a feasible schedule of all tasks, with the lengths that they took or still take. That holds of
+/// a rest that asks for more than it must, of cranes at any places that they can have reached by now, and where tasks that
+/// run are over sooner than is known.
 fn every_plan_of_the_rest_keeps_the_rules()
     ensures { (c : Course) (over : ℕ → ℕ) (stands : List Stand) (rest : InstanceView) (new : List Slot) (tasks : List Task)
         (sched : List Slot) → Valid c.inst → Feasible c.inst c.plan → Keeps c → AreOver c over → IsRest c over stands rest
