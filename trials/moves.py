@@ -496,7 +496,7 @@ def cuts(runs, name, arrival, departure):
 
 
 def pairs(words):
-    runs = Runs(program_of(words), Path(words.kept))
+    runs = Runs(program_of(words, "moves"), Path(words.kept))
     for seed in range(words.first, words.first + words.count):
         rng = random.Random(seed)
         arrival, departure = pair_of(rng)
@@ -515,7 +515,7 @@ def pairs(words):
 
 
 def rows(words):
-    faults, runs = 0, Runs(program_of(words), Path("moves-kept")) if words.program else None
+    faults, runs = 0, Runs(program_of(words, "moves"), Path("moves-kept")) if words.program else None
     folders = sorted(path for path in Path(words.folder).iterdir() if (path / "report").is_file())
     for folder in folders:
         some = {name: (folder / name).read_bytes() for name in os.listdir(folder)}
@@ -546,7 +546,7 @@ def message(body, count):
 
 
 def large(words):
-    program, faults = program_of(words), 0
+    program, faults = program_of(words, "moves"), 0
     room = Path(tempfile.mkdtemp(prefix="moves-"))
     one = {n: message(stack(n, 1), n) for n in (20_000, 25_000, 25_001)}
     other = {n: message(stack(n, 2), n) for n in (20_000, 25_000, 25_001)}

@@ -162,7 +162,7 @@ def options(words):
 
 
 def rows(words):
-    faults, program = 0, program_of(words) if words.program else None
+    faults, program = 0, program_of(words, "odds") if words.program else None
     made = list(all_rows())
     for number, (files, more, due) in enumerate(made, 1):
         shipped, listed, planned, pasted = (None if text is None else text.encode() for text in files)
@@ -352,7 +352,7 @@ class Kept:
     """A room for runs, and what differs in them."""
 
     def __init__(self, words):
-        self.program, self.kept = program_of(words), Path(words.kept)
+        self.program, self.kept = program_of(words, "odds"), Path(words.kept)
         self.room = Path(tempfile.mkdtemp(prefix="odds-", dir="/dev/shm" if Path("/dev/shm").is_dir() else None))
         self.counts, self.differences = Counter(), 0
 
@@ -459,7 +459,7 @@ BAD = [["--runs", "0"], ["--runs", "10001"], ["--runs", "01"], ["--seed", "21474
 
 
 def words_tried(words):
-    faults, program = 0, program_of(words)
+    faults, program = 0, program_of(words, "odds")
     files = tuple(text.encode() for text in (ship(), NEAR, LATE_FIRST, past("a,-,100,100")))
     with tempfile.TemporaryDirectory() as room:
         for more, is_good in [(more, True) for more in GOOD] + [(more, False) for more in BAD]:

@@ -191,7 +191,7 @@ STATUSES = {"NoRest": 20, "BadLog": 17, "Broken": 13, "ReadFault": 3}
 
 
 def rows(words):
-    faults, program = 0, program_of(words) if words.program else None
+    faults, program = 0, program_of(words, "rest") if words.program else None
     for number, (shipped, listed, planned, logged, due, *made) in enumerate(ROWS, 1):
         status, lines = (STATUSES[due.split()[0]], [due]) if isinstance(due, str) else (0, due)
         files = [None if text is None else text.encode() for text in (shipped, listed, planned, logged)]
@@ -446,7 +446,7 @@ class Kept:
     """A room for runs, and what differs in them."""
 
     def __init__(self, words):
-        self.program, self.kept = program_of(words), Path(words.kept)
+        self.program, self.kept = program_of(words, "rest"), Path(words.kept)
         self.room = Path(tempfile.mkdtemp(prefix="rest-", dir="/dev/shm" if Path("/dev/shm").is_dir() else None))
         self.counts, self.differences = Counter(), 0
 

@@ -24,14 +24,17 @@ def add_program(parser):
                         "compiles with checks; the proved one of this checkout where it isn't given")
 
 
-def program_of(words):
-    """The path of the program that a script's words tell, once it is said which one that is."""
+def program_of(words, command=None):
+    """The path of the program that a script's words tell, once it is said which one that is. Without the command that the
+    script needs it ends."""
     script = Path(sys.argv[0]).name
     program = {None: PROVED, "checked": CHECKED}.get(words.program) or Path(words.program).resolve()
     if not (program.is_file() and os.access(program, os.X_OK)):
         sys.exit(f"{script}: there is no program {program}; ./qc --prove makes the proved one, and package/try-program "
                  "the one compiled with checks")
     print(f"{script}: takes {program}, {KINDS.get(program, 'a file')}", file=sys.stderr, flush=True)
+    if command and command not in commands_of(program):
+        sys.exit(f"{script}: this program has no command {command}")
     return str(program)
 
 
