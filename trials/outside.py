@@ -367,6 +367,11 @@ def same_files():
                     os.remove(room.at(path))
                 expect(f"{words[0]}: {path} is the {name} that is read, {how}", ran, 4, FAULT, it_is_kept=room.read(name) == before,
                        the_others_are_whole_or_none=kept(room, whole), no_part_left=not room.parts())
+    if known(LISTED):
+        room = Room().fill()
+        room.write("d", LISTED_INPUTS["d"][:LISTED_INPUTS["d"].rindex(b"UNT")])
+        expect("moves: the list is the arrival by another path, and the departure is cut", room.run(["moves", "a", "d", "./a"]), 19,
+               b"BadBayPlan Cut departure 10\n", it_is_kept=room.read("a") == LISTED_INPUTS["a"], no_part_left=not room.parts())
     for one, other in (("y", "x"), ("z", "x"), ("z", "y")) if known(LEFT) else ():
         room = Room().fill()
         whole = whole_of(room, LEFT)

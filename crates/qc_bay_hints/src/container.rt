@@ -131,15 +131,18 @@ pub(crate) fn say_id(page: &mut Page, message: &Message<'_>, which: Which, numbe
         .end()
 }
 
+/// The size of the container that a segment tells, behind its place and the number of the segment that tells that, both
+/// as they are written.
+fn size_at(page: &mut Page, message: &Message<'_>, number: u32) -> Option<(u32, Bytes, Bytes)> {
+    let (at, cell) = cell_at(page, message, number)?;
+    let segment = message.segment(number)?;
+    let size = part_of(page, &segment, 3, 0)?;
+    Some((at, cell, size))
+}
+
 /// Says that a size isn't known.
 pub(crate) fn say_size(page: &mut Page, message: &Message<'_>, number: u32) {
-    let Some((at, cell)) = cell_at(page, message, number) else {
-        return;
-    };
-    let Some(segment) = message.segment(number) else {
-        return;
-    };
-    let Some(size) = part_of(page, &segment, 3, 0) else {
+    let Some((at, cell, size)) = size_at(page, message, number) else {
         return;
     };
     on_container(page, message, number, at, cell.as_slice())
@@ -153,13 +156,7 @@ pub(crate) fn say_size(page: &mut Page, message: &Message<'_>, number: u32) {
 
 /// Says that a size isn't that of the bay.
 pub(crate) fn say_length(page: &mut Page, message: &Message<'_>, number: u32) {
-    let Some((at, cell)) = cell_at(page, message, number) else {
-        return;
-    };
-    let Some(segment) = message.segment(number) else {
-        return;
-    };
-    let Some(size) = part_of(page, &segment, 3, 0) else {
+    let Some((at, cell, size)) = size_at(page, message, number) else {
         return;
     };
     on_container(page, message, number, at, cell.as_slice())

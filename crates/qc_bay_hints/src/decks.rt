@@ -1,4 +1,4 @@
-//! Containers that stay on deck over holds that are worked.
+//! What stays on deck where the hold below is worked. Whether a cover lies between, no bay plan says.
 
 use crate::both::Both;
 use indexmap::IndexMap;
@@ -7,7 +7,7 @@ use qc_ship::Cell;
 use qc_stow::Row;
 use std::alloc::Global;
 
-/// Notes at which bays of 20 feet a cell in the hold is worked.
+/// The bays of 20 feet below whose deck something is moved: two for each container of 40 feet.
 fn worked_holds(alloc: Global, rows: &[Row]) -> Result<IndexMap<u16, bool>, OutOfMemory> {
     let mut bays = IndexMap::new(alloc);
     for row in rows {
@@ -20,7 +20,7 @@ fn worked_holds(alloc: Global, rows: &[Row]) -> Result<IndexMap<u16, bool>, OutO
     Ok(bays)
 }
 
-/// The ids of the containers that are moved.
+/// The ids in the list of moves, an entry each.
 fn moved_ids(alloc: Global, rows: &[Row]) -> Result<IndexMap<&[u8], bool>, OutOfMemory> {
     let mut ids = IndexMap::new(alloc);
     for row in rows {
@@ -29,13 +29,13 @@ fn moved_ids(alloc: Global, rows: &[Row]) -> Result<IndexMap<&[u8], bool>, OutOf
     Ok(ids)
 }
 
-/// Whether a cell is on deck at a bay of 20 feet at which the hold is worked.
+/// Whether a cell is a deck's, and one of its slots has an entry among these bays.
 fn is_over(bays: &IndexMap<u16, bool>, cell: &Cell) -> bool {
     let (first, last) = cell.slots();
     cell.is_deck() && (bays.contains_key(&first) || bays.contains_key(&last))
 }
 
-/// How many containers stay on deck at a bay of 20 feet at which the hold is worked.
+/// Counts the containers on deck that have no move, and share a bay of 20 feet with one in the hold that has.
 pub(crate) fn stay_on_deck(alloc: Global, both: &Both) -> Result<u64, OutOfMemory> {
     let bays = worked_holds(alloc, both.changes.rows())?;
     let moved = moved_ids(alloc, both.changes.rows())?;
