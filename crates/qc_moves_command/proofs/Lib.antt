@@ -1,2 +1,3 @@
 pub mod MovesLemmas
 pub mod StoreLemmas
+pub mod WorkedLemmas
