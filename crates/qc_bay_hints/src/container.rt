@@ -43,11 +43,22 @@ fn cell_text(page: &mut Page, segment: &Segment<'_>) -> Option<Bytes> {
     part_of(page, segment, 2, 0)
 }
 
+/// A component of the segment of this number.
+fn text_at(
+    page: &mut Page,
+    message: &Message<'_>,
+    number: u32,
+    element: u16,
+    component: u16,
+) -> Option<Bytes> {
+    let segment = message.segment(number)?;
+    part_of(page, &segment, element, component)
+}
+
 /// The cell of the place that is open at a segment, as it is written, with the number of the segment that tells it.
 fn cell_at(page: &mut Page, message: &Message<'_>, number: u32) -> Option<(u32, Bytes)> {
     let at = place_before(message, number);
-    let segment = message.segment(at)?;
-    let text = cell_text(page, &segment)?;
+    let text = text_at(page, message, at, 2, 0)?;
     Some((at, text))
 }
 
@@ -73,10 +84,7 @@ pub(crate) fn say_cell_kind(page: &mut Page, message: &Message<'_>, number: u32)
     let Some((at, cell)) = cell_at(page, message, number) else {
         return;
     };
-    let Some(segment) = message.segment(at) else {
-        return;
-    };
-    let Some(agency) = part_of(page, &segment, 2, 2) else {
+    let Some(agency) = text_at(page, message, at, 2, 2) else {
         return;
     };
     on_container(page, message, number, at, cell.as_slice())
@@ -135,8 +143,7 @@ pub(crate) fn say_id(page: &mut Page, message: &Message<'_>, which: Which, numbe
 /// as they are written.
 fn size_at(page: &mut Page, message: &Message<'_>, number: u32) -> Option<(u32, Bytes, Bytes)> {
     let (at, cell) = cell_at(page, message, number)?;
-    let segment = message.segment(number)?;
-    let size = part_of(page, &segment, 3, 0)?;
+    let size = text_at(page, message, number, 3, 0)?;
     Some((at, cell, size))
 }
 
