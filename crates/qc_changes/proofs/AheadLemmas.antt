@@ -1,9 +1,8 @@
 -- Of two moves of the list the first has nothing to do with the second, or must be made ahead of it.
-use Rattle.std.proofs.Common.{◌≡◌, ◌≢◌, ◌∙◌, ℕ, ◌≤◌, Bool, true, false, ◌||◌, List, Some, refl, sym, inl, inr, subst}
+use Rattle.std.proofs.Common.{◌≡◌, ◌≢◌, ◌∙◌, ◌≤◌, Bool, true, false, ◌||◌, List, Some, refl, sym, inl, inr, subst}
 use Rattle.std.specs.Str.{bytes_eq}
-use Rattle.std.specs.List.{AllByRecursion as Each}
 use Rattle.std.proofs.lemmas.Bool.{cases_Bool}
-use Rattle.qc_ship.specs.Cells.{CellView, overlap}
+use Rattle.qc_ship.specs.Cells.{overlap}
 use Rattle.qc_bayplan.specs.Plan.{AreContainers}
 use Rattle.qc_bayplan.specs.declared.plan.Container.{Container}
 use Rattle.qc_stow.specs.declared.row.Move.TheVariants.{Discharge, Load}

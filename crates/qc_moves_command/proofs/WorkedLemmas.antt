@@ -1,9 +1,10 @@
 -- The moves of a work sheet, in the order of their ticks, lead from the one bay plan to the other.
-use Rattle.std.proofs.Common.{◌≡◌, ◌∙◌, ◌⊎◌, ℕ, zero, suc, ◌+◌, ◌-◌, ◌%◌, ◌<◌, ◌≤◌, ◌==◌, ◌&&◌, ◌||◌, Bool, true, false, cond, List, [], ◌∷◌, length, get_or, map, take, Result, Ok, Err, refl, sym, ap, subst, inl, inr, arith, All, AllPairs, Contains, IsSome, count_by}
+use Rattle.std.proofs.Common.{◌≡◌, ◌∙◌, ◌⊎◌, ℕ, zero, suc, ◌+◌, ◌-◌, ◌++◌, ◌%◌, ◌<◌, ◌≤◌, ◌==◌, ◌&&◌, ◌||◌, Bool, true, false, cond, List, [], ◌∷◌, length, get_or, map, take, Ok, refl, sym, ap, subst, inl, inr, arith, All, AllPairs, Contains, IsSome, count_by, nat_le}
+use Rattle.std.specs.Bool.{beq}
 use Rattle.std.specs.List.{list_any, range_with_len}
 use Rattle.std.specs.List.Sorted.{IsPermutation}
 use Rattle.std.specs.Str.{bytes_eq}
-use Rattle.std.proofs.lemmas.Bool.{and_from, and_parts, cases_Bool, cases_order, eq-eqb, eqb-true, le-leb, leb-true, ltb-true}
+use Rattle.std.proofs.lemmas.Bool.{and_from, and_parts, cases_Bool, cases_order, eq-eqb, eqb-true, le-leb, leb-true}
 use Rattle.std.proofs.lemmas.List.{get_or_default, take_all, take_more}
 use Rattle.std.proofs.lemmas.List.Elements.{All-from_recursion, Contains-get_or}
 use Rattle.std.proofs.lemmas.List.FromFn.{map-range_with_len_more}
@@ -27,7 +28,7 @@ use Rattle.qc_model.specs.declared.task.Task.{Task}
 use Rattle.qc_model.specs.Instance.{no_task, task}
 use Rattle.qc_model.specs.Rules.{Feasible, start_of}
 use Rattle.qc_model.specs.Tasks.{phase_rank}
-use Rattle.qc_sheet.specs.Kept.{BeginBoth, Begins, IsWorkable, phase_of}
+use Rattle.qc_sheet.specs.Kept.{BeginBoth, Begins, IsWorkable}
 use Rattle.qc_sheet.specs.Order.{AreOrders, cell_at, is_over, moves_of, no_row, order_of, row_at}
 use Rattle.qc_sheet.specs.SheetText.{WorkView, tick_at}
 use Rattle.qc_sheet.proofs.OnceLemmas.{one_task}
@@ -36,7 +37,6 @@ use Rattle.qc_sheet.proofs.OverLemmas.{IsMove}
 use Rattle.qc_sheet.proofs.WorkLemmas.{workable}
 use Rattle.qc_ship.specs.Cells.{CellView, is_on_deck, overlap, slots}
 use Rattle.qc_ship.specs.Ship.{IsShip, ShipView, place_of_bay, takes}
-use Rattle.qc_stow.specs.declared.fault.StowFault.{StowFault}
 use Rattle.qc_stow.specs.declared.row.Move.{Move}
 use Rattle.qc_stow.specs.declared.row.Move.TheVariants.{Discharge, Load}
 use Rattle.qc_stow.specs.declared.row.Row.{Row}
