@@ -1,14 +1,14 @@
 -- The moves of a work sheet, in the order of their ticks, lead from the one bay plan to the other.
-use Rattle.std.proofs.Common.{◌≡◌, ◌∙◌, ◌⊎◌, ℕ, zero, suc, ◌+◌, ◌-◌, ◌++◌, ◌%◌, ◌<◌, ◌≤◌, ◌==◌, ◌&&◌, ◌||◌, Bool, true, false, cond, List, [], ◌∷◌, length, get_or, map, take, Ok, refl, sym, ap, subst, inl, inr, arith, All, AllPairs, Contains, IsSome, count_by, nat_le}
+use Rattle.std.proofs.Common.{◌≡◌, ◌∙◌, ◌⊎◌, ℕ, zero, suc, ◌+◌, ◌-◌, ◌++◌, ◌%◌, ◌<◌, ◌≤◌, ◌==◌, ◌&&◌, ◌||◌, Bool, true, false, cond, List, [], ◌∷◌, length, get_or, map, take, Ok, refl, sym, ap, subst, inl, inr, arith, All, AllPairs, Contains, IsSome, count_by, nat_le, sum_by}
 use Rattle.std.specs.Bool.{beq}
-use Rattle.std.specs.List.{list_any, range_with_len}
+use Rattle.std.specs.List.{filter, flat_map, list_any, range_with_len, AllByRecursion as Each}
 use Rattle.std.specs.List.Sorted.{IsPermutation}
 use Rattle.std.specs.Str.{bytes_eq}
-use Rattle.std.proofs.lemmas.Bool.{and_from, and_parts, cases_Bool, cases_order, eq-eqb, eqb-true, le-leb, leb-true}
-use Rattle.std.proofs.lemmas.List.{get_or_default, take_all, take_more}
+use Rattle.std.proofs.lemmas.Bool.{and_from, and_parts, cases_Bool, cases_lt, cases_order, eq-eqb, eqb-true, le-leb, leb-true}
+use Rattle.std.proofs.lemmas.List.{take_all, take_more}
 use Rattle.std.proofs.lemmas.List.Elements.{All-from_recursion, Contains-get_or}
 use Rattle.std.proofs.lemmas.List.FromFn.{map-range_with_len_more}
-use Rattle.std.proofs.lemmas.List.Sorted.{All-permutation, Contains-permutation, IsPermutation-map}
+use Rattle.std.proofs.lemmas.List.Sorted.{All-permutation, IsPermutation-map}
 use Rattle.std.proofs.lemmas.List.Sums.{sum_by-cons}
 use Rattle.std.proofs.lemmas.Slice.Eq.{bytes_eq-Decides}
 use Rattle.qc_num.specs.Reading.{each}
@@ -24,14 +24,12 @@ use Rattle.qc_changes.proofs.AheadLemmas.{leads_in_order}
 use Rattle.qc_changes.proofs.Any.{any_map}
 use Rattle.qc_changes.proofs.Elements.{In, any_in, in_any}
 use Rattle.qc_model.specs.declared.schedule.Slot.{Slot}
-use Rattle.qc_model.specs.declared.task.Task.{Task}
 use Rattle.qc_model.specs.Instance.{no_task, task}
 use Rattle.qc_model.specs.Rules.{Feasible, start_of}
 use Rattle.qc_model.specs.Tasks.{phase_rank}
 use Rattle.qc_sheet.specs.Kept.{BeginBoth, Begins, IsWorkable}
-use Rattle.qc_sheet.specs.Order.{AreOrders, cell_at, is_over, moves_of, no_row, order_of, row_at}
-use Rattle.qc_sheet.specs.SheetText.{WorkView, tick_at}
-use Rattle.qc_sheet.proofs.OnceLemmas.{one_task}
+use Rattle.qc_sheet.specs.Order.{AreOrders, cell_at, is_over, no_row, order_of, row_at}
+use Rattle.qc_sheet.specs.SheetText.{WorkView, crane_tasks, has_turn, tick_at}
 use Rattle.qc_sheet.proofs.OrderLemmas.{in_order}
 use Rattle.qc_sheet.proofs.OverLemmas.{IsMove}
 use Rattle.qc_sheet.proofs.WorkLemmas.{workable}
@@ -45,8 +43,8 @@ use Rattle.qc_stow.specs.Moves.{AreMoves, is_discharge, is_load, most_moves}
 use Rattle.qc_stow.specs.Stow.{moves_in, moves_of as moves_of_records, next_row, numbered}
 use Rattle.qc_stow.proofs.StowFacts.{rows-keep}
 use Rattle.qc_lines.specs.Records.{records_of}
-use Rattle.qc_tasks.specs.InstanceOf.{instance_of, is_move_of, phase_with, tasks_of}
-use Rattle.qc_tasks.proofs.Lists.{contains_filter, contains_range, each_range, each_weaker, pair_map, pairs_by_index, pairs_from_index}
+use Rattle.qc_tasks.specs.InstanceOf.{instance_of, phase_with, tasks_of}
+use Rattle.qc_tasks.proofs.Lists.{each_filter, each_flat_map, each_from, each_range, each_weaker, pair_map, pairs_by_index, pairs_from_index, sum_by-flat_map}
 use Rattle.qc_tasks.proofs.TaskFacts.{Follows, all_follow, takes_once}
 use Rattle.qc_moves_command.specs.Worked.{AreInTime, work_with}
 
@@ -140,7 +138,7 @@ takes_slot hatch bay slot taken at = elim (cases_Bool (bay % 2 == 0)) [
   ]
   | inl even ↦ elim (cases_Bool (hatch % 2 == 0)) [
     | inl forty ↦
-        let (low, high) = and_parts _ _ (rw forty at taken) in
+        let (low, high) = and_parts (nat_le (hatch - 1) bay) (nat_le bay (hatch + 1)) (rw forty at taken) in
         let low' = leb-true (hatch - 1) bay low in
         let high' = leb-true bay (hatch + 1) high in
         let bay_even = eqb-true (bay % 2) 0 even in
@@ -154,7 +152,7 @@ takes_slot hatch bay slot taken at = elim (cases_Bool (bay % 2 == 0)) [
           ]
         ])
     | inr twenty ↦
-        let (low, high) = and_parts _ _ (rw twenty at taken) in
+        let (low, high) = and_parts (nat_le hatch bay) (nat_le bay hatch) (rw twenty at taken) in
         let here : bay ≡ hatch = omega (arith, leb-true hatch bay low, leb-true bay hatch high) in
         absurd (cc (ap (λ (n : ℕ). n % 2 == 0) here, even, twenty))
   ]
@@ -196,26 +194,39 @@ out_earlier Load l d e a b same = absurd (cc a)
 out_earlier Discharge Discharge d e a b same = absurd (cc b)
 
 -- one that passes, of a list of which some pass
+abbrev weight : Bool → ℕ
+weight b = cond b 1 0
+
 found : {X : Type 0} (p : X → Bool) (xs : List X) (d : X) → 1 ≤ count_by p xs → (k : ℕ) × ((k < length xs) × (p (get_or xs k d) ≡ true))
 found p [] d some = absurd (omega arith)
 found p (x ∷ xs) d some = elim (cases_Bool (p x)) [
   | inl here ↦ (0, (omega arith, here))
   | inr other ↦
-      let step = sum_by-cons (λ y. cond (p y) 1 0) x xs in
-      let none : cond (p x) 1 0 ≡ 0 = ap (λ b. cond b 1 0) other in
+      let step = sum_by-cons (λ y. weight (p y)) x xs in
+      let none : weight (p x) ≡ 0 = ap weight other in
       let (k, (low, is)) = found p xs d (omega (arith, some, step, none)) in (suc k, (omega (arith, low), is))
+]
+
+-- one that adds to a sum, of elements of which something holds
+adds : {X : Type 0} (P : X → Type 0) (g : X → ℕ) (xs : List X) → Each P xs → 1 ≤ sum_by g xs → (x : X) × (P x × (1 ≤ g x))
+adds P g [] each some = absurd (omega arith)
+adds P g (x ∷ xs) each some = elim (cases_lt 0 (g x)) [
+  | inl here ↦ (x, (each.0, omega (arith, here)))
+  | inr none ↦ let step = sum_by-cons g x xs in adds P g xs each.1 (omega (arith, some, step, none))
 ]
 
 -- a list by its places
 by_places : {X : Type 0} (xs : List X) (d : X) → map (λ k. get_or xs k d) (range_with_len 0 (length xs)) ≡ xs
-by_places xs d = front (length xs) (omega arith) ∙ take_all (length xs) xs (omega arith)
+by_places {X} xs d = front (length xs) (omega arith) ∙ take_all (length xs) xs (omega arith)
   where
     front : (n : ℕ) → n ≤ length xs → map (λ k. get_or xs k d) (range_with_len 0 n) ≡ take n xs
     front zero le = refl
     front (suc n) le =
-        let so_far = front n (omega (arith, le)) in
-        ap (λ (m : ℕ). map (λ k. get_or xs k d) (range_with_len 0 m)) (omega arith) ∙ map-range_with_len_more (λ k. get_or xs k d) 0 n n (omega arith)
-        ∙ ap (λ ys. ys ++ get_or xs n d ∷ []) so_far ∙ sym (take_more xs n d (omega (arith, le))) ∙ ap (λ (m : ℕ). take m xs) (omega arith)
+        let more : n + 1 ≡ suc n = omega arith in
+        subst (λ (m : ℕ). map (λ k. get_or xs k d) (range_with_len 0 m) ≡ take m xs) more
+        (map-range_with_len_more (λ k. get_or xs k d) 0 n n (omega arith)
+        ∙ ap (λ (ys : List X). ys ++ get_or xs n d ∷ []) (front n (omega (arith, le)))
+        ∙ sym (take_more xs n d (omega (arith, le))))
 
 -- ---- the work sheet
 
@@ -228,18 +239,34 @@ module _ (ship : ShipView) (is : IsShip ship) (rows : List Row) (moves : AreMove
   works : IsWorkable w
   works = workable ship is rows moves hatches sched orders are feasible
 
+  -- the tasks of all cranes, each of which is one
+  abbrev tasks_told : List ℕ
+  tasks_told = flat_map (crane_tasks w.inst sched) (range_with_len 0 (length w.inst.cranes))
+
+  abbrev IsNumber : ℕ → Type 0
+  IsNumber j = j < length (tasks_of ship rows)
+
+  are_tasks : Each IsNumber tasks_told
+  are_tasks =
+      each_flat_map IsNumber (crane_tasks w.inst sched) (range_with_len 0 (length w.inst.cranes))
+      (each_from (λ k. Each IsNumber (crane_tasks w.inst sched k)) (range_with_len 0 (length w.inst.cranes))
+      (λ k. each_flat_map IsNumber (λ turn. filter (has_turn w.inst sched k turn) (range_with_len 0 (length (tasks_of ship rows)))) (range_with_len 0 (length (tasks_of ship rows)))
+      (each_from (λ turn. Each IsNumber (filter (has_turn w.inst sched k turn) (range_with_len 0 (length (tasks_of ship rows))))) (range_with_len 0 (length (tasks_of ship rows)))
+      (λ turn. each_weaker (λ j. IsNumber j × (has_turn w.inst sched k turn j ≡ true)) IsNumber (filter (has_turn w.inst sched k turn) (range_with_len 0 (length (tasks_of ship rows)))) (λ j h. h.0)
+      (each_filter IsNumber (has_turn w.inst sched k turn) (range_with_len 0 (length (tasks_of ship rows)))
+      (each_weaker (λ j. (0 ≤ j) × (j < 0 + length (tasks_of ship rows))) IsNumber (range_with_len 0 (length (tasks_of ship rows))) (λ j h. omega (arith, h)) (each_range 0 (length (tasks_of ship rows)))))))))
+
   -- the sheet tells each move
   begins : (n : ℕ) → n < length rows → (j : ℕ) × ((t : ℕ) × Begins w n j t)
   begins n low =
-      let one = one_task ship is rows (row_at rows n) (Contains-get_or rows n no_row low) (hatches n no_row low) in
-      let (j, (j_low, mine)) = found (λ (t : Task). is_move_of t (row_at rows n)) (tasks_of ship rows) no_task (omega (arith, one)) in
-      let t = task w.inst j in
-      let listed : Contains (moves_of rows t) n = contains_filter (λ m. is_move_of t (row_at rows m)) (range_with_len 0 (length rows)) n (contains_range 0 (length rows) n (omega arith) (omega (arith, low))) mine in
-      let (place, place_low, at) = Contains-permutation (moves_of rows t) (order_of orders j) n (are.each j j_low).moves listed in (
+      let once = works.once n low in
+      let parts = sum_by-flat_map (λ (m : ℕ). weight (m == n)) (order_of orders) tasks_told in
+      let (j, (j_low, some)) = adds IsNumber (λ (j : ℕ). sum_by (λ (m : ℕ). weight (m == n)) (order_of orders j)) tasks_told are_tasks (omega (arith, once, parts)) in
+      let (place, (place_low, is')) = found (λ (m : ℕ). m == n) (order_of orders j) 0 some in (
         j,
         (
-          tick_at ship t.phase (start_of sched j) place,
-          record { place = place; task_low = j_low; place_low = place_low; move_is = get_or_default (order_of orders j) place 0 n place_low ∙ at; tick_is = refl },
+          tick_at ship (task w.inst j).phase (start_of sched j) place,
+          record { place = place; task_low = j_low; place_low = place_low; move_is = eqb-true (get_or (order_of orders j) place 0) n is'; tick_is = refl },
         ),
       )
 
@@ -280,18 +307,18 @@ module _ (ship : ShipView) (is : IsShip ship) (rows : List Row) (moves : AreMove
   begins_first : (m n i j s t : ℕ) → Begins w m i s → Begins w n j t → must_lead (row_at rows m) (row_at rows n) ≡ true → s < t
   begins_first m n i j s t b c leads = elim (why_lead (row_at rows m) (row_at rows n) leads) [
     | inl out ↦
-        let over = out.1.1 in
-        works.lifted m n s t (in_hatch m n i j s t b c (over_near (cell_at rows m) (cell_at rows n) over)) out.0 out.1.0 (over_sheet (cell_at rows m) (cell_at rows n) over)
+        let over = out.2 in
+        works.lifted m n s t (in_hatch m n i j s t b c (over_near (cell_at rows m) (cell_at rows n) over)) out.0 out.1 (over_sheet (cell_at rows m) (cell_at rows n) over)
     | inr rest ↦ elim rest [
       | inl in' ↦
-          let over = in'.1.1 in
-          works.set_down n m t s (in_hatch n m j i t s c b (over_near (cell_at rows n) (cell_at rows m) over)) in'.1.0 in'.0 (over_sheet (cell_at rows n) (cell_at rows m) over)
-      | inr both ↦ elim both.1.1 [
-        | inl one ↦ works.restows ordered m n i j s t b c (record { off = both.0; back = both.1.0; one_id = (bytes_eq-Decides (row_at rows m).id (row_at rows n).id).0 one })
+          let over = in'.2 in
+          works.set_down n m t s (in_hatch n m j i t s c b (over_near (cell_at rows n) (cell_at rows m) over)) in'.1 in'.0 (over_sheet (cell_at rows n) (cell_at rows m) over)
+      | inr both ↦ elim both.2 [
+        | inl one ↦ works.restows ordered m n i j s t b c (record { off = both.0; back = both.1; one_id = (bytes_eq-Decides (row_at rows m).id (row_at rows n).id).0 one })
         | inr near ↦
             let close = meet_near (cell_at rows m) (cell_at rows n) near in
             works.phases m n s t (in_hatch m n i j s t b c close)
-            (out_earlier (row_at rows m).kind (row_at rows n).kind (is_on_deck (cell_at rows m)) (is_on_deck (cell_at rows n)) both.0 both.1.0 close.deck)
+            (out_earlier (row_at rows m).kind (row_at rows n).kind (is_on_deck (cell_at rows m)) (is_on_deck (cell_at rows n)) both.0 both.1 close.deck)
       ]
     ]
   ]
