@@ -212,12 +212,10 @@ fn is_among(name: Option<&str>, others: &[Option<&str>]) -> bool
 fn are_different(names: &[Option<&str>]) -> bool
     ensures { result ≡ are_different (texts_of names.now) }
 {
-    let mut rest = names;
-    while let Some((name, others)) = rest.split_first() {
-        if is_among(*name, others) {
+    for at in 0..names.len() {
+        if is_among(names[at], &names[at + 1..]) {
             return false;
         }
-        rest = others;
     }
     true
 }
