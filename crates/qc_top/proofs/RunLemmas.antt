@@ -56,7 +56,7 @@ use Rattle.qc_log_commands.specs.declared.watching.Watching.TheVariants as watch
 use Rattle.qc_log_commands.specs.WatchAccount.{watch_reader}
 use Rattle.qc_log_commands.specs.WatchTexts.{watching_status}
 use Rattle.qc_words.proofs.LimitLemmas.{asked_kept}
-use Rattle.qc_words.specs.Asked.{Asked, KeepsLimits, are_different, is_same, read, plan, list, make, help, version, usage}
+use Rattle.qc_words.specs.Asked.{Asked, KeepsLimits, are_different, is_same, read, plan, moves, make, help, version, usage}
 use Rattle.qc_words.specs.declared.asked.Reader.{Reader}
 use Rattle.qc_words.specs.declared.asked.Reader.TheVariants as reader
 use Rattle.qc_words.specs.Words.{Asks}
@@ -223,10 +223,10 @@ module _ (words : List (List ℕ)) (before after pb pa : View) (ended : Status) 
       plan_promises asked before after pb pa ended
       (served (λ v. IsPlanRun asked before v pb pa ended) (λ reports. as_plan before pb pa ended reports asked) (serves (plan asked) asks))
 
-  lists_moves : (asked : Moving) → Asks words (list asked) → MovesPromises asked before after pb pa ended
+  lists_moves : (asked : Moving) → Asks words (moves asked) → MovesPromises asked before after pb pa ended
   lists_moves asked asks =
       moves_promises asked before after pb pa ended
-      (served (λ v. IsMovesRun asked before v pb pa ended) (λ reports. as_list before pb pa ended reports asked) (serves (list asked) asks))
+      (served (λ v. IsMovesRun asked before v pb pa ended) (λ reports. as_list before pb pa ended reports asked) (serves (moves asked) asks))
 
   own_stays : (asked : Planning) → Asks words (plan asked)
       → IfSome asked.inputs.own (λ own. IfSome before.files (λ held. IfSome after.files (λ now. get now own ≡ get held own)))
@@ -327,7 +327,7 @@ module _ (words : List (List ℕ)) (before after pb pa : View) (ended : Status) 
   whatever (plan asked) asks =
       let p = plans asked asks in
       record { stays = λ never. absurd (never tt); usage_words = λ e. absurd (p.no_usage e); memory = p.out_of_memory }
-  whatever (list asked) asks =
+  whatever (moves asked) asks =
       let p = lists_moves asked asks in
       record { stays = λ never. absurd (never tt); usage_words = λ e. absurd (p.no_usage e); memory = p.out_of_memory }
   whatever (read command names) asks = by_command command names (read command names) (reads command names asks)

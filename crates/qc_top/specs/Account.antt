@@ -18,7 +18,7 @@ use Rattle.qc_run.specs.Texts.{stop_status, stop_text}
 use Rattle.qc_sheet_command.specs.Account.{sheet_reader}
 use Rattle.qc_trial.specs.Account.{IsTrialRun}
 use Rattle.qc_log_commands.specs.WatchAccount.{watch_reader}
-use Rattle.qc_words.specs.Asked.{Asked, read, plan, list, make, help, version, usage}
+use Rattle.qc_words.specs.Asked.{Asked, read, plan, moves, make, help, version, usage}
 use Rattle.qc_words.specs.declared.asked.Reader.{Reader}
 use Rattle.qc_words.specs.declared.asked.Reader.TheVariants as reader
 use Rattle.qc_words.specs.Commands.{named}
@@ -65,7 +65,7 @@ IsReadBy reader.Report = IsReaderRun report_reader
 abbrev pub IsRunOf : Asked → (before after out_before out_after : View) → Status → Type 0
 IsRunOf (read reader names) = IsReadBy reader names
 IsRunOf (plan asked) = IsPlanRun asked
-IsRunOf (list asked) = IsMovesRun asked
+IsRunOf (moves asked) = IsMovesRun asked
 IsRunOf (make n h c) = IsMakeRun n h c
 IsRunOf (help of) = IsAbout
 IsRunOf version = IsAbout

@@ -15,7 +15,7 @@ use Rattle.qc_run.specs.Inputs.{Moving, Names, Planning, Replanning}
 use Rattle.qc_words.specs.declared.asked.Reader.TheVariants as reader
 use Rattle.qc_words.specs.declared.commands.CommandName.{CommandName}
 use Rattle.qc_words.specs.declared.commands.CommandName.TheVariants as name
-use Rattle.qc_words.specs.Asked.{Asked, KeepsLimits, are_different, given, help, list, listing, most_number, most_runs, most_seed, plan, read, renewing, replan, tick_digits, usage, version}
+use Rattle.qc_words.specs.Asked.{Asked, KeepsLimits, are_different, given, help, listing, most_number, most_runs, most_seed, moves, plan, read, renewing, replan, tick_digits, usage, version}
 use Rattle.qc_words.specs.Commands.{command_name, command_of, named, read_by}
 use Rattle.qc_words.specs.Words.{about, asked_by, asked_in, asked_of, by_in, check_in, followed, is_help, listed, make_of, moves_in, nodes_in, number_between, odds_in, odds_of, plan_in, plan_of, rest_in, runs_in, seed_in, value_of, weighed}
 
@@ -68,7 +68,7 @@ moves_kept rows =
       departure = value_of (codes "departure") rows;
       stow = value_of (codes "stow") rows;
     } in
-    cond_both (are_different (listing asked)) (list asked) usage KeepsLimits (λ yes. yes) (λ _. tt)
+    cond_both (are_different (listing asked)) (moves asked) usage KeepsLimits (λ yes. yes) (λ _. tt)
 
 runs_kept : (text : Option Text) → IsBetween 1 most_runs (runs_in text)
 runs_kept None = (lit≤ tt, lit≤ tt)

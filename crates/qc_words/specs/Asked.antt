@@ -33,7 +33,7 @@ pub data Asked : Type 0 where
   -- a plan and its tree, beside the planner's own plan where one is named
   plan : Planning → Asked
   -- a list of the moves between two bay plans
-  list : Moving → Asked
+  moves : Moving → Asked
   -- the odds of a plan by what tasks of past calls took
   simulate : Simulating → Asked
   -- the files of what is left of a plan in the middle of its work
@@ -51,7 +51,7 @@ pub data Asked : Type 0 where
 abbrev pub asked_for : Request → Asked
 asked_for (request.Reads reader files) = read reader (names_of files)
 asked_for (request.Plans asked) = plan (planning asked)
-asked_for (request.Moves asked) = list (moving asked)
+asked_for (request.Moves asked) = moves (moving asked)
 asked_for (request.Odds asked) = simulate (simulating asked)
 asked_for (request.Rest asked) = replan (replanning asked)
 asked_for (request.Make number hatches cranes) = make number hatches cranes
@@ -105,7 +105,7 @@ abbrev pub KeepsLimits : Asked → Type 0
 KeepsLimits (read reader names) = AreNamed reader names
 KeepsLimits (plan asked) =
     IsSome asked.inputs.stow × IsTrue (are_different (given asked)) × (asked.nodes ≤ most_branchings)
-KeepsLimits (list asked) = IsTrue (are_different (listing asked))
+KeepsLimits (moves asked) = IsTrue (are_different (listing asked))
 KeepsLimits (simulate asked) =
     IsSome asked.inputs.stow × IsSome asked.inputs.plan × IsSome asked.inputs.past
     × (1 ≤ asked.runs) × (asked.runs ≤ most_runs) × (asked.seed ≤ most_seed) × IfSome asked.by_tick (λ tick. tick < 10 ^ tick_digits)

@@ -9,7 +9,7 @@ use Rattle.qc_model.specs.declared.turn.Turn.{Turn}
 use Rattle.qc_model.specs.declared.turn.Turn.TheVariants.{OneWay, Free}
 use Rattle.qc_num.specs.Digits.{number_in}
 use Rattle.qc_run.specs.Inputs.{Moving, Names, Planning, Replanning, Simulating, no_names}
-use Rattle.qc_words.specs.Asked.{Asked, read, plan, list, simulate, replan, make, help, version, usage, are_different, given, listing, renewing, most_number, most_runs, most_seed, tick_digits}
+use Rattle.qc_words.specs.Asked.{Asked, read, plan, moves, simulate, replan, make, help, version, usage, are_different, given, listing, renewing, most_number, most_runs, most_seed, tick_digits}
 use Rattle.qc_words.specs.declared.asked.Reader.TheVariants as reader
 use Rattle.qc_words.specs.Commands.{command_of, named, read_by, command_name}
 use Rattle.qc_words.specs.declared.commands.CommandName.{CommandName}
@@ -137,7 +137,7 @@ plan_in turn rows = option_map_or
 
 -- a list of moves, where its names are different
 abbrev pub moves_of : Moving → Asked
-moves_of asked = if are_different (listing asked) then list asked else usage
+moves_of asked = if are_different (listing asked) then moves asked else usage
 
 abbrev pub moves_in : List Row → Asked
 moves_in rows = moves_of (record {
