@@ -8,7 +8,7 @@ ghost use Rattle.qc_run.specs.Inputs.{names_of};
 ghost use Rattle.qc_words.specs.Asked.{asked_for, usage, KeepsLimits, are_different, is_same, name_text, name_texts};
 ghost use Rattle.qc_words.specs.Commands.{command_of, named, read_by};
 ghost use Rattle.qc_words.specs.declared.commands.CommandName.TheVariants as name;
-ghost use Rattle.qc_words.specs.Words.{Asks, about, asked_in, by_in, check_in, followed, listed, moves_in, nodes_in, number_between, odds_in, plan_in, planned, rest_in, runs_in, seed_in, texts, value_of, watched, weighed};
+ghost use Rattle.qc_words.specs.Words.{Asks, about, asked_in, by_in, check_in, followed, listed, moves_in, nodes_in, number_between, odds_in, plan_in, planned, runs_in, seed_in, texts, value_of, watched, weighed};
 
 use crate::about::about;
 use crate::asked::{MOST_NUMBER, MOST_RUNS, MOST_SEED, Reader, Request};
@@ -17,7 +17,7 @@ use clap::error::ErrorKind;
 use clap::{ArgMatches, Command};
 use qc_model::{MOST_CRANES, MOST_HATCHES, Turn};
 use qc_num::{OutOfMemory, Tick, plain_number};
-use qc_run::{Inputs, MovesAsked, OddsAsked, PlanAsked, RestAsked};
+use qc_run::{Inputs, MovesAsked, OddsAsked, PlanAsked};
 use qc_tree::MOST_BRANCHINGS;
 use std::alloc::Global;
 
@@ -281,26 +281,6 @@ fn odds_in<'a>(matches: &ArgMatches<'a>) -> Request<'a>
     }
 }
 
-/// The rest of a plan, where its names are different.
-fn rest_in<'a>(matches: &ArgMatches<'a>) -> Request<'a>
-    ensures { asked_for result ≡ rest_in (rows_of (found_of matches.now)) }
-{
-    let asked = RestAsked {
-        inputs: followed(matches),
-        new_ship: value_of(matches, "newship"),
-        new_stow: value_of(matches, "newstow"),
-        own: value_of(matches, "own"),
-    };
-    let files = asked.inputs;
-    let (ship, stow, plan, log) = (Some(files.ship), files.stow, files.plan, files.log);
-    let (new_ship, new_stow, own) = (Some(asked.new_ship), Some(asked.new_stow), Some(asked.own));
-    if are_different(&[ship, stow, plan, log, new_ship, new_stow, own]) {
-        Request::Rest(asked)
-    } else {
-        Request::Usage
-    }
-}
-
 /// What is made by the three numbers, where they are in range.
 fn make_from<'a>(matches: &ArgMatches<'a>) -> Request<'a>
     ensures { asked_for result ≡ asked_in name.Make (rows_of (found_of matches.now)) }
@@ -338,7 +318,6 @@ fn asked_in<'a>(name: CommandName, matches: &ArgMatches<'a>) -> Request<'a>
         CommandName::Report => Request::Reads(Reader::Report, planned(matches)),
         CommandName::Moves => moves_in(matches),
         CommandName::Odds => odds_in(matches),
-        CommandName::Rest => rest_in(matches),
     }
 }
 
