@@ -1,0 +1,5 @@
+pub mod Texts
+pub mod Forecasts
+pub mod Account
+pub mod Promises
+pub mod Ready
