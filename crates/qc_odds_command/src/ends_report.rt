@@ -2,7 +2,7 @@
 ghost use Rattle.std.specs.Prelude.{◌≡◌, ◌≤◌, ◌++◌, ℕ, List, All};
 ghost use Rattle.std.specs.List.{flat_map};
 ghost use Rattle.qc_io.specs.Writes.{Writes};
-ghost use Rattle.qc_odds_command.specs.Ready.{CanBeCounted};
+ghost use Rattle.qc_odds_command.specs.Counted.{CanBeCounted};
 ghost use Rattle.qc_odds_command.specs.Texts.{asked_text, done_line, ends_text, head_text, kept_line, percents_told};
 
 use qc_io::{Sink, WriteFault, put_all};

@@ -4,7 +4,7 @@ ghost use Rattle.std.specs.List.{flat_map, range_with_len};
 ghost use Rattle.qc_io.specs.Writes.{Writes};
 ghost use Rattle.qc_model.specs.Judge.{IsJudgeable};
 ghost use Rattle.qc_odds.specs.Small.{IsSmallCrane, IsSmallTask};
-ghost use Rattle.qc_odds_command.specs.Ready.{CanBeCounted, CanBeSummed};
+ghost use Rattle.qc_odds_command.specs.Counted.{CanBeCounted, CanBeSummed};
 ghost use Rattle.qc_odds_command.specs.Texts.{crane_line, crane_sum_line, sums_text, task_line, task_sum_line};
 
 use qc_io::{Sink, WriteFault, put_all};
