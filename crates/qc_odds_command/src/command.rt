@@ -11,7 +11,7 @@ use qc_io::{Shelf, Sink};
 use qc_num::OutOfMemory;
 use qc_odds::simulate;
 use qc_run::{
-    Ended, OddsAsked, Stop, broken_of, broken_rule, read_job, read_past_tasks, report_stop,
+    Ended, OddsAsked, Stop, broken_of, broken_rule, read_job, read_past_file, report_stop,
 };
 use std::alloc::Global;
 
@@ -37,7 +37,7 @@ fn forecast<S: Shelf>(
     if let Some(broken) = broken_rule(&job.inst, &job.sched) {
         return Ok(Forecasting::Broken(broken_of(&job.inst, broken)));
     }
-    let past = match read_past_tasks(alloc, &asked.inputs, shelf) {
+    let past = match read_past_file(alloc, &asked.inputs, shelf) {
         Ok(past) => past,
         Err(stop) => return Err(stop),
     };
