@@ -1,6 +1,6 @@
 //! The command that works a plan many times.
 ghost use Rattle.std.specs.Prelude.{◌≤◌, IfOk, IsSome};
-ghost use Rattle.qc_run.specs.Inputs.{simulating};
+ghost use Rattle.qc_run.specs.Inputs.{names_of, simulating};
 ghost use Rattle.qc_odds_command.specs.Account.{IsOddsAccount, IsOddsRun};
 ghost use Rattle.qc_odds_command.specs.Promises.{OddsPromises};
 ghost use Rattle.qc_odds_command.specs.Ready.{CanBeTold};
@@ -22,11 +22,11 @@ fn forecast<S: Shelf>(
     asked: &OddsAsked<'_>,
     shelf: &mut S,
 ) -> Result<Forecasting, Stop>
-    requires stow { IsSome (simulating asked.now).inputs.stow }
-    requires plan { IsSome (simulating asked.now).inputs.plan }
-    requires past { IsSome (simulating asked.now).inputs.past }
-    requires some { 1 ≤ (simulating asked.now).runs }
-    requires few { (simulating asked.now).runs ≤ 10000 }
+    requires stow { IsSome (names_of asked.now.inputs).stow }
+    requires plan { IsSome (names_of asked.now.inputs).plan }
+    requires past { IsSome (names_of asked.now.inputs).past }
+    requires some { 1 ≤ asked.now.runs }
+    requires few { asked.now.runs ≤ 10000 }
     ensures serves { IsOddsAccount (simulating asked.now) (S.Sink.view shelf.old) (S.Sink.view shelf.new) result }
     ensures ready { IfOk result CanBeTold }
 {
@@ -53,17 +53,17 @@ fn forecast<S: Shelf>(
 
 /// Tells how likely it is that a ship is done in time: reads the ship file, the stowage list, the plan's file and that of
 /// past tasks, works the plan many times, and prints what the runs come to.
-pub fn tell_odds<S: Shelf, K: Sink>(
+pub fn odds<S: Shelf, K: Sink>(
     alloc: Global,
     asked: &OddsAsked<'_>,
     shelf: &mut S,
     out: &mut K,
 ) -> Ended
-    requires stow { IsSome (simulating asked.now).inputs.stow }
-    requires plan { IsSome (simulating asked.now).inputs.plan }
-    requires past { IsSome (simulating asked.now).inputs.past }
-    requires some { 1 ≤ (simulating asked.now).runs }
-    requires few { (simulating asked.now).runs ≤ 10000 }
+    requires stow { IsSome (names_of asked.now.inputs).stow }
+    requires plan { IsSome (names_of asked.now.inputs).plan }
+    requires past { IsSome (names_of asked.now.inputs).past }
+    requires some { 1 ≤ asked.now.runs }
+    requires few { asked.now.runs ≤ 10000 }
     ensures account { IsOddsRun (simulating asked.now) (S.Sink.view shelf.old) (S.Sink.view shelf.new)
         (K.Sink.view out.old) (K.Sink.view out.new) result.status }
     ensures promises { OddsPromises (simulating asked.now) (S.Sink.view shelf.old) (S.Sink.view shelf.new)

@@ -2,7 +2,7 @@
 //!
 //! It reads a plan and what tasks took in past calls, works the plan many times, each time with lengths that are drawn
 //! from those, and prints when all is done, how often it is by the end of the plan, what the cranes do, and which tasks
-//! to watch (`tell_odds`).
+//! to watch (`odds`).
 #![tactic(auto)]
 
 mod answer;
@@ -12,4 +12,4 @@ mod report;
 mod sums_report;
 
 pub use answer::{Forecast, Forecasting};
-pub use command::tell_odds;
+pub use command::odds;
