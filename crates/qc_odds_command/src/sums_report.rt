@@ -114,6 +114,7 @@ fn put_watched<K: Sink>(
 }
 
 /// Writes what the runs come to for each crane, and for the tasks to watch.
+#[tactic(auto, using(qc_io::proofs::WritesLemmas::writes_cut))]
 pub(crate) fn put_sums<K: Sink>(
     inst: &Instance,
     plan: &Schedule,
