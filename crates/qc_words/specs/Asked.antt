@@ -69,9 +69,12 @@ abbrev pub are_different : List (Option (List ℕ)) → Bool
 are_different [] = true
 are_different (name ∷ names) = not (list_any (is_same name) names) && are_different names
 
--- the names, as texts
+-- a name as a text, where it is there
+abbrev pub text_of : Option (Bor (List ℕ)) → Option (List ℕ)
+text_of = option_map (λ name. name.now)
+
 abbrev pub texts_of : List (Option (Bor (List ℕ))) → List (Option (List ℕ))
-texts_of = map (option_map (λ name. name.now))
+texts_of names = map text_of names
 
 -- the names that a plan is given: of the files that it reads, and of those that it writes
 abbrev pub given : Planning → List (Option (List ℕ))

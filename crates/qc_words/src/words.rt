@@ -5,7 +5,7 @@ ghost use Rattle.std.specs.List.{list_any};
 ghost use Rattle.std.specs.Option.{option_map_or};
 ghost use Rattle.clap.specs.Words.{app_of, found_of, rows_of, first_of, is_simple_and_free};
 ghost use Rattle.qc_run.specs.Inputs.{names_of};
-ghost use Rattle.qc_words.specs.Asked.{asked_for, usage, KeepsLimits, are_different, is_same, texts_of};
+ghost use Rattle.qc_words.specs.Asked.{asked_for, usage, KeepsLimits, are_different, is_same, text_of, texts_of};
 ghost use Rattle.qc_words.specs.Commands.{command_of, named, read_by};
 ghost use Rattle.qc_words.specs.declared.commands.CommandName.TheVariants as name;
 ghost use Rattle.qc_words.specs.Words.{Asks, about, asked_in, by_in, check_in, followed, listed, moves_in, nodes_in, number_between, odds_in, plan_in, planned, rest_in, runs_in, seed_in, texts, value_of, watched, weighed};
@@ -203,7 +203,7 @@ fn is_same(a: Option<&str>, b: Option<&str>) -> bool
 
 /// Whether a name is there and some other is equal to it.
 fn is_among(name: Option<&str>, others: &[Option<&str>]) -> bool
-    ensures { result ≡ list_any (is_same (option_map (λ name. name.now) name.entry)) (texts_of others.now) }
+    ensures { result ≡ list_any (λ other. is_same (text_of name.entry) (text_of other)) others.now }
 {
     others.iter().any(|other| is_same(name, *other))
 }
