@@ -10,7 +10,7 @@ abbrev Named : Type 0
 Named = Option (Bor (List ℕ))
 
 -- some other name is equal to it
-abbrev among : Named → List Named → Bool
+abbrev pub among : Named → List Named → Bool
 among name others = list_any (λ other. is_same (name_text name) (name_text other)) others
 
 by_among : (name : Named) (others : List Named) (found : Bool) → among name others ≡ found
