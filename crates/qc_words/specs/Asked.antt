@@ -1,6 +1,5 @@
 -- public: what a command line asks for, with the names of its files.
-use Rattle.std.specs.Prelude.{ℕ, ◌<◌, ◌≤◌, ◌^◌, Bool, true, false, not, ◌&&◌, IfSome, IsSome, IsTrue, List, [], ◌∷◌, Option, Some, map, option_map}
-use Rattle.std.specs.Borrow.{Bor}
+use Rattle.std.specs.Prelude.{ℕ, ◌<◌, ◌≤◌, ◌^◌, Bool, true, false, not, ◌&&◌, IfSome, IsSome, IsTrue, List, [], ◌∷◌, Option, Some}
 use Rattle.std.specs.List.{list_any}
 use Rattle.std.specs.Str.{bytes_eq}
 use Rattle.qc_model.specs.Numbers.{most_branchings, most_cranes, most_hatches}
@@ -65,13 +64,6 @@ is_same _ _ = false
 abbrev pub are_different : List (Option (List ℕ)) → Bool
 are_different [] = true
 are_different (name ∷ names) = not (list_any (is_same name) names) && are_different names
-
--- a name as a text, where it is there
-abbrev pub name_text : Option (Bor (List ℕ)) → Option (List ℕ)
-name_text = option_map (λ name. name.now)
-
-abbrev pub name_texts : List (Option (Bor (List ℕ))) → List (Option (List ℕ))
-name_texts names = map name_text names
 
 -- the names that a plan is given: of the files that it reads, and of those that it writes
 abbrev pub given : Planning → List (Option (List ℕ))
