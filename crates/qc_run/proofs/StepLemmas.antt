@@ -23,7 +23,7 @@ use Rattle.qc_run.specs.declared.refusal.Refusal.{Refusal}
 use Rattle.qc_run.specs.declared.refusal.Refusal.TheVariants as refusal
 use Rattle.qc_run.specs.declared.refusal.Stop.{Stop}
 use Rattle.qc_run.specs.declared.refusal.Stop.TheVariants as stop
-use Rattle.qc_run.specs.Inputs.{IsWhole, Moving, Names, input_of, name_of, plans_named}
+use Rattle.qc_run.specs.Inputs.{IsWhole, Moving, Names, bay_plans_named, input_of, name_of}
 use Rattle.qc_ship.specs.Keys.{fault}
 use Rattle.qc_ship.specs.declared.fault.Key.TheVariants as key
 use Rattle.qc_ship.specs.declared.fault.ShipKind.TheVariants as kind
@@ -193,6 +193,7 @@ input_steady input.Own input.Own contents = inr refl
 input_steady input.Log input.Log contents = inr refl
 input_steady input.Arrival input.Arrival contents = inr refl
 input_steady input.Departure input.Departure contents = inr refl
+input_steady input.Past input.Past contents = inr refl
 input_steady read file contents = inl refl
 
 pub then_steady : {A B : Type 0} (step : Contents → Result A Refusal) (next : A → Contents → Result B Refusal) → Steady step → ((a : A) → Steady (next a))
@@ -218,6 +219,7 @@ same_turn input.Own contents = refl
 same_turn input.Log contents = refl
 same_turn input.Arrival contents = refl
 same_turn input.Departure contents = refl
+same_turn input.Past contents = refl
 
 pub ship_steady : Steady ship_due
 ship_steady = then_steady (input_due input.Ship) (λ bytes _. with_fault refusal.BadShip (ship_file bytes)) (input_steady input.Ship) (λ bytes file contents. inl refl)
@@ -232,11 +234,11 @@ instance_steady =
     (λ rows file contents. inl (ap (λ (turn : Turn). order_due ship rows >>= λ inst. Ok (with_turn inst turn)) (same_turn file contents))))
 
 -- a bay plan's file is named, and is read whole
-pub plan_named : (which : Which) (asked : Moving) → IsSome (name_of (input_of which) (plans_named asked))
+pub plan_named : (which : Which) (asked : Moving) → IsSome (name_of (input_of which) (bay_plans_named asked))
 plan_named Arrival asked = refl
 plan_named Departure asked = refl
 
-pub plan_whole : (which : Which) (asked : Moving) → IsWhole (input_of which) (plans_named asked)
+pub plan_whole : (which : Which) (asked : Moving) → IsWhole (input_of which) (bay_plans_named asked)
 plan_whole Arrival asked = refl
 plan_whole Departure asked = refl
 
@@ -245,13 +247,13 @@ plan_steady which = then_steady (input_due (input_of which)) (λ bytes _. with_f
 
 -- a fault of a bay plan, whose file was read
 pub plan_refused : (which : Which) (asked : Moving) {before after : View} {bytes : List ℕ}
-    → IsStep (input_due (input_of which)) (plans_named asked) before after (Ok bytes) → (fault : BayPlanFault) → bay_plan_in which bytes ≡ Err fault
-    → IsStep (bay_plan_due which) (plans_named asked) before after (Err (stop.Refused (refusal.BadBayPlan which fault)))
+    → IsStep (input_due (input_of which)) (bay_plans_named asked) before after (Ok bytes) → (fault : BayPlanFault) → bay_plan_in which bytes ≡ Err fault
+    → IsStep (bay_plan_due which) (bay_plans_named asked) before after (Err (stop.Refused (refusal.BadBayPlan which fault)))
 plan_refused which asked {before = before} {bytes = bytes} first fault bad = record {
   ok = tt;
   err = (
     first.ok.0,
-    comes_then (input_due (input_of which)) (λ read _. with_fault (refusal.BadBayPlan which) (bay_plan_in which read)) (plans_named asked) before.files bytes
+    comes_then (input_due (input_of which)) (λ read _. with_fault (refusal.BadBayPlan which) (bay_plan_in which read)) (bay_plans_named asked) before.files bytes
         (Err (refusal.BadBayPlan which fault)) first.ok.1 (told before.files),
   );
   may = plan_named which asked;
@@ -265,11 +267,12 @@ plan_refused which asked {before = before} {bytes = bytes} first fault bad = rec
     told None = tt
     told (Some held) = ap (with_fault (refusal.BadBayPlan which)) bad
 
--- ---- no fault of a tree or of a log comes of the other files
+-- ---- no fault of a tree, of a log or of past tasks comes of the other files
 
 abbrev pub IsEarly : Refusal → Type 0
 IsEarly (refusal.BadTree fault) = ⊥
 IsEarly (refusal.BadLog fault) = ⊥
+IsEarly (refusal.BadPast fault) = ⊥
 IsEarly why = Unit {0}
 
 pub input_early : (file : Input) (bytes : Option (List ℕ)) → IfErr (within_limit file bytes) IsEarly

@@ -1,21 +1,23 @@
 -- What is asked for keeps the limits, whatever the words are.
-use Rattle.std.proofs.Common.{refl, ℕ, ◌≤◌, ◌&&◌, ◌||◌, IfSome, IsSome, bytes_eq, lit≤, nat_le, cond, List, [], ◌∷◌, Option, None, Some, codes, arith, option_and_then, option_map, unwrap_or}
+use Rattle.std.proofs.Common.{refl, ℕ, ◌<◌, ◌≤◌, ◌^◌, ◌&&◌, ◌||◌, IfSome, IsSome, bytes_eq, lit≤, nat_le, cond, List, [], ◌∷◌, Option, None, Some, codes, arith, option_and_then, option_map, unwrap_or}
 use Rattle.std.proofs.lemmas.Bool.{cond_both}
 use Rattle.std.proofs.lemmas.Bool.Decides.{nat_tests}
 use Rattle.std.specs.Option.{option_map_or}
+use Rattle.std.specs.Str.Parse.{digits_value}
 use Rattle.clap.proofs.WalkLemmas.{both}
 use Rattle.clap.specs.Words.{Row, Text, first_of}
 use Rattle.qc_model.specs.Numbers.{most_branchings, most_cranes, most_hatches}
 use Rattle.qc_model.specs.declared.turn.Turn.{Turn}
 use Rattle.qc_model.specs.declared.turn.Turn.TheVariants.{OneWay, Free}
-use Rattle.qc_num.specs.Digits.{number_in}
+use Rattle.qc_num.specs.Digits.{is_plain, number_in}
+use Rattle.qc_num.proofs.DigitLemmas.{plain_parts, value_fits}
 use Rattle.qc_run.specs.Inputs.{Moving, Names, Planning}
 use Rattle.qc_words.specs.declared.asked.Reader.TheVariants as reader
 use Rattle.qc_words.specs.declared.commands.CommandName.{CommandName}
 use Rattle.qc_words.specs.declared.commands.CommandName.TheVariants as name
-use Rattle.qc_words.specs.Asked.{Asked, KeepsLimits, are_different, given, help, list, listing, most_number, plan, read, usage, version}
+use Rattle.qc_words.specs.Asked.{Asked, KeepsLimits, are_different, given, help, listing, most_number, most_runs, most_seed, moves, plan, read, tick_digits, usage, version}
 use Rattle.qc_words.specs.Commands.{command_name, command_of, named, read_by}
-use Rattle.qc_words.specs.Words.{about, asked_by, asked_in, asked_of, check_in, is_help, listed, make_of, moves_in, nodes_in, number_between, plan_in, plan_of, value_of}
+use Rattle.qc_words.specs.Words.{about, asked_by, asked_in, asked_of, by_in, check_in, followed, is_help, listed, make_of, moves_in, nodes_in, number_between, odds_in, odds_of, plan_in, plan_of, runs_in, seed_in, value_of, weighed}
 
 abbrev IsBetween : ℕ → ℕ → Option ℕ → Type 0
 IsBetween least most number = IfSome number (λ n. (least ≤ n) × (n ≤ most))
@@ -66,7 +68,38 @@ moves_kept rows =
       departure = value_of (codes "departure") rows;
       stow = value_of (codes "stow") rows;
     } in
-    cond_both (are_different (listing asked)) (list asked) usage KeepsLimits (λ yes. yes) (λ _. tt)
+    cond_both (are_different (listing asked)) (moves asked) usage KeepsLimits (λ yes. yes) (λ _. tt)
+
+runs_kept : (text : Option Text) → IsBetween 1 most_runs (runs_in text)
+runs_kept None = (lit≤ tt, lit≤ tt)
+runs_kept (Some text) = number_kept 1 most_runs text
+
+seed_kept : (text : Option Text) → IsBetween 0 most_seed (seed_in text)
+seed_kept None = (lit≤ tt, lit≤ tt)
+seed_kept (Some text) = number_kept 0 most_seed text
+
+number_small : (most : ℕ) (text : Text) → IfSome (number_in most text) (λ n. n < 10 ^ most)
+number_small most text =
+    cond_both (is_plain most text) (Some (digits_value 10 text)) None (λ o. IfSome o (λ n. n < 10 ^ most))
+    (λ yes. let plain = plain_parts text most yes in value_fits text most plain.digits plain.few) (λ _. tt)
+
+abbrev IsEarly : Option (Option ℕ) → Type 0
+IsEarly tick = IfSome tick (λ t. IfSome t (λ n. n < 10 ^ tick_digits))
+
+by_kept : (text : Option Text) → IsEarly (by_in text)
+by_kept None = tt
+by_kept (Some text) = go (number_in tick_digits text) (number_small tick_digits text)
+  where
+    go : (o : Option ℕ) → IfSome o (λ n. n < 10 ^ tick_digits) → IsEarly (option_map (λ tick. Some tick) o)
+    go None small = tt
+    go (Some n) small = small
+
+odds_numbers_kept : (rows : List Row) (runs seed : Option ℕ) (tick : Option (Option ℕ)) → IsBetween 1 most_runs runs → IsBetween 0 most_seed seed → IsEarly tick
+    → KeepsLimits (odds_of (weighed rows) runs seed tick)
+odds_numbers_kept rows None seed tick some few early = tt
+odds_numbers_kept rows (Some n) None tick some few early = tt
+odds_numbers_kept rows (Some n) (Some s) None some few early = tt
+odds_numbers_kept rows (Some n) (Some s) (Some t) some few early = (refl, refl, refl, some.0, some.1, few.1, early)
 
 check_kept : (turn : Turn) (rows : List Row) → KeepsLimits (check_in turn rows)
 check_kept turn rows =
@@ -88,6 +121,7 @@ command_kept name.Dispatch rows = (refl, refl, refl)
 command_kept name.Picture rows = (refl, refl)
 command_kept name.Report rows = (refl, refl)
 command_kept name.Moves rows = moves_kept rows
+command_kept name.Odds rows = odds_numbers_kept rows _ _ _ (runs_kept (first_of (codes "runs") rows)) (seed_kept (first_of (codes "seed") rows)) (by_kept (first_of (codes "by") rows))
 command_kept name.Make rows = make_kept _ _ _ (number_kept 0 most_number (value_of (codes "number") rows))
     (number_kept 1 most_hatches (value_of (codes "hatches") rows)) (number_kept 1 most_cranes (value_of (codes "cranes") rows))
 

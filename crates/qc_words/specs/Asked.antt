@@ -1,9 +1,9 @@
 -- public: what a command line asks for, with the names of its files.
-use Rattle.std.specs.Prelude.{ℕ, ◌≤◌, Bool, true, false, not, ◌&&◌, IsSome, IsTrue, List, [], ◌∷◌, Option, Some}
+use Rattle.std.specs.Prelude.{ℕ, ◌<◌, ◌≤◌, ◌^◌, Bool, true, false, not, ◌&&◌, IfSome, IsSome, IsTrue, List, [], ◌∷◌, Option, Some}
 use Rattle.std.specs.List.{list_any}
 use Rattle.std.specs.Str.{bytes_eq}
 use Rattle.qc_model.specs.Numbers.{most_branchings, most_cranes, most_hatches}
-use Rattle.qc_run.specs.Inputs.{Moving, Names, Planning, moving, names_of, planning}
+use Rattle.qc_run.specs.Inputs.{Moving, Names, Planning, Simulating, moving, names_of, planning, simulating}
 use Rattle.qc_words.specs.declared.asked.Reader.{Reader}
 use Rattle.qc_words.specs.declared.asked.Reader.TheVariants as reader
 use Rattle.qc_words.specs.declared.asked.Request.{Request}
@@ -14,13 +14,27 @@ use Rattle.qc_words.specs.declared.commands.CommandName.{CommandName}
 abbrev pub most_number : ℕ
 most_number = 2147483647
 
+-- the most runs that odds are asked for with
+abbrev pub most_runs : ℕ
+most_runs = 10000
+
+-- the greatest number that draws begin with
+abbrev pub most_seed : ℕ
+most_seed = 2147483647
+
+-- how many digits the tick has at most by which it is asked how often a ship is done
+abbrev pub tick_digits : ℕ
+tick_digits = 12
+
 pub data Asked : Type 0 where
   -- a command that only reads, with its files, and which schedules a check is asked about
   read : Reader → Names → Asked
   -- a plan and its tree, beside the planner's own plan where one is named
   plan : Planning → Asked
   -- a list of the moves between two bay plans
-  list : Moving → Asked
+  moves : Moving → Asked
+  -- the odds of a plan by what tasks of past calls took
+  simulate : Simulating → Asked
   -- a ship and a list made from a number, planned and checked
   make : (number hatches cranes : ℕ) → Asked
   -- what the program does and its commands, or one command
@@ -34,7 +48,8 @@ pub data Asked : Type 0 where
 abbrev pub asked_for : Request → Asked
 asked_for (request.Reads reader files) = read reader (names_of files)
 asked_for (request.Plans asked) = plan (planning asked)
-asked_for (request.Moves asked) = list (moving asked)
+asked_for (request.Moves asked) = moves (moving asked)
+asked_for (request.Odds asked) = simulate (simulating asked)
 asked_for (request.Make number hatches cranes) = make number hatches cranes
 asked_for (request.Help of) = help of
 asked_for request.Version = version
@@ -73,7 +88,10 @@ abbrev pub KeepsLimits : Asked → Type 0
 KeepsLimits (read reader names) = AreNamed reader names
 KeepsLimits (plan asked) =
     IsSome asked.inputs.stow × IsTrue (are_different (given asked)) × (asked.nodes ≤ most_branchings)
-KeepsLimits (list asked) = IsTrue (are_different (listing asked))
+KeepsLimits (moves asked) = IsTrue (are_different (listing asked))
+KeepsLimits (simulate asked) =
+    IsSome asked.inputs.stow × IsSome asked.inputs.plan × IsSome asked.inputs.past
+    × (1 ≤ asked.runs) × (asked.runs ≤ most_runs) × (asked.seed ≤ most_seed) × IfSome asked.by_tick (λ tick. tick < 10 ^ tick_digits)
 KeepsLimits (make number hatches cranes) =
     (number ≤ most_number) × (1 ≤ hatches) × (hatches ≤ most_hatches)
     × (1 ≤ cranes) × (cranes ≤ most_cranes)

@@ -31,6 +31,8 @@ qc report SHIP STOW PLAN
     the figures of each crane of a plan, as a CSV
 qc moves ARRIVAL DEPARTURE STOW
     writes the list of moves that leads from one bay plan to another
+qc odds SHIP STOW PLAN PAST [--runs N] [--seed S] [--by T]
+    how often a plan ends in time, by how long tasks of past calls took
 
 qc COMMAND --help tells more of one command, qc --version which program this is. With -q as the
 first word nothing is said on standard error.
@@ -153,6 +155,17 @@ Ends with 0.
 Faults end with 2 to 4, 9, 15 and 19, and are told by their kind and place: man 5 qc.
 ";
 
+const ODDS: &[u8] = b"qc odds SHIP STOW PLAN PAST [--runs N] [--seed S] [--by T]
+
+Works a plan many times, each time with lengths drawn from those that tasks of one past call took,
+and tells when the ship is done, how often by the end of the plan, and which tasks to watch.
+    --runs N   so many runs, 1 to 10000; 1000 where it isn't given
+    --seed S   what the draws begin with, 0 to 2147483647; 0 where it isn't given
+    --by T     tells also how often the ship is done by tick T, 0 to 999999999999
+Ends with 0, or 13 Broken.
+Faults end with 2 to 6, 8, 9, 15 and 21, and are told by their kind and place: man 5 qc.
+";
+
 const VERSION: &[u8] = b"qc 0.3.0
 proved with rattle-kit-13f logic dac8208d650f15bf
 ";
@@ -175,6 +188,7 @@ fn command_help(of: CommandName) -> &'static [u8]
         CommandName::Picture => PICTURE,
         CommandName::Report => REPORT,
         CommandName::Moves => MOVES,
+        CommandName::Odds => ODDS,
     }
 }
 

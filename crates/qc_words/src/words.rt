@@ -7,21 +7,27 @@ ghost use Rattle.qc_run.specs.Inputs.{moving, names_of, planning};
 ghost use Rattle.qc_words.specs.Asked.{asked_for, usage, KeepsLimits, are_different, given, is_same, listing};
 ghost use Rattle.qc_words.specs.Commands.{command_of, named, read_by};
 ghost use Rattle.qc_words.specs.declared.commands.CommandName.TheVariants as name;
-ghost use Rattle.qc_words.specs.Words.{Asks, about, asked_in, check_in, followed, listed, moves_in, nodes_in, number_between, plan_in, planned, texts, value_of, watched};
+ghost use Rattle.qc_words.specs.Words.{Asks, about, asked_in, by_in, check_in, followed, listed, moves_in, nodes_in, number_between, odds_in, plan_in, planned, runs_in, seed_in, texts, value_of, watched, weighed};
 
 use crate::about::about;
-use crate::asked::{MOST_NUMBER, Reader, Request};
+use crate::asked::{MOST_NUMBER, MOST_RUNS, MOST_SEED, Reader, Request};
 use crate::commands::{CommandName, command_of, named};
 use clap::error::ErrorKind;
 use clap::{ArgMatches, Command};
 use qc_model::{MOST_CRANES, MOST_HATCHES, Turn};
-use qc_num::{OutOfMemory, plain_number};
-use qc_run::{Inputs, MovesAsked, PlanAsked};
+use qc_num::{OutOfMemory, Tick, plain_number};
+use qc_run::{Inputs, MovesAsked, OddsAsked, PlanAsked};
 use qc_tree::MOST_BRANCHINGS;
 use std::alloc::Global;
 
 /// How many branchings a plan has at most where the words don't say it.
 pub const USUAL_BRANCHINGS: u32 = 20_000;
+
+/// How many runs odds are of where the words don't say it.
+pub const USUAL_RUNS: u16 = 1000;
+
+// How many digits the tick of `--by` has at most.
+const TICK_DIGITS: usize = 12;
 
 /// What the command reads from the words, or nothing where it refuses them.
 fn read<'a>(
@@ -86,6 +92,36 @@ fn nodes_in(text: Option<&str>) -> Option<u32>
     }
 }
 
+/// How many runs `--runs` gives, and the usual ones without it.
+fn runs_in(text: Option<&str>) -> Option<u16>
+    ensures { result ≡ runs_in (option_map (λ text. text.now) text.entry) }
+{
+    match text {
+        Some(text) => Some(number_between(text, 1, u32::from(MOST_RUNS))? as u16),
+        None => Some(USUAL_RUNS),
+    }
+}
+
+/// What `--seed` says that draws begin with, and 0 without it.
+fn seed_in(text: Option<&str>) -> Option<u32>
+    ensures { result ≡ seed_in (option_map (λ text. text.now) text.entry) }
+{
+    match text {
+        Some(text) => number_between(text, 0, MOST_SEED),
+        None => Some(0),
+    }
+}
+
+/// The tick that `--by` gives, which needn't be there; `None` where it is no tick.
+fn by_in(text: Option<&str>) -> Option<Option<Tick>>
+    ensures { result ≡ by_in (option_map (λ text. text.now) text.entry) }
+{
+    match text {
+        Some(text) => Some(Some(plain_number(text.as_bytes(), TICK_DIGITS)?)),
+        None => Some(None),
+    }
+}
+
 /// The files of a command that reads a ship file and a list.
 fn listed<'a>(matches: &ArgMatches<'a>) -> Inputs<'a>
     ensures { names_of result ≡ listed (rows_of (found_of matches.now)) }
@@ -112,6 +148,16 @@ fn followed<'a>(matches: &ArgMatches<'a>) -> Inputs<'a>
 {
     Inputs {
         log: Some(value_of(matches, "log")),
+        ..planned(matches)
+    }
+}
+
+/// A ship file, a list, a plan, and what tasks of past calls took.
+fn weighed<'a>(matches: &ArgMatches<'a>) -> Inputs<'a>
+    ensures { names_of result ≡ weighed (rows_of (found_of matches.now)) }
+{
+    Inputs {
+        past: Some(value_of(matches, "past")),
         ..planned(matches)
     }
 }
@@ -215,6 +261,25 @@ fn moves_in<'a>(matches: &ArgMatches<'a>) -> Request<'a>
     }
 }
 
+/// The odds of a plan, where each number of its options is in its range.
+fn odds_in<'a>(matches: &ArgMatches<'a>) -> Request<'a>
+    ensures { asked_for result ≡ odds_in (rows_of (found_of matches.now)) }
+{
+    match (
+        runs_in(text_of(matches, "runs")),
+        seed_in(text_of(matches, "seed")),
+        by_in(text_of(matches, "by")),
+    ) {
+        (Some(runs), Some(seed), Some(by_tick)) => Request::Odds(OddsAsked {
+            inputs: weighed(matches),
+            runs,
+            seed,
+            by_tick,
+        }),
+        _ => Request::Usage,
+    }
+}
+
 /// What is made by the three numbers, where they are in range.
 fn make_from<'a>(matches: &ArgMatches<'a>) -> Request<'a>
     ensures { asked_for result ≡ asked_in name.Make (rows_of (found_of matches.now)) }
@@ -251,6 +316,7 @@ fn asked_in<'a>(name: CommandName, matches: &ArgMatches<'a>) -> Request<'a>
         CommandName::Picture => Request::Reads(Reader::Picture, planned(matches)),
         CommandName::Report => Request::Reads(Reader::Report, planned(matches)),
         CommandName::Moves => moves_in(matches),
+        CommandName::Odds => odds_in(matches),
     }
 }
 
