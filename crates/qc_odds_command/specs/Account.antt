@@ -1,5 +1,5 @@
 -- public: the account of the command that works a plan many times: what its answer tells of the files.
-use Rattle.std.specs.Prelude.{◌≡◌, ◌⊎◌, List, Option, Result, Ok}
+use Rattle.std.specs.Prelude.{◌⊎◌, List, Option, Result, Ok}
 use Rattle.qc_io.specs.Outside.{Files, View}
 use Rattle.qc_model.specs.Rules.{Feasible}
 use Rattle.qc_past.specs.declared.task.PastTask.{PastTask}

@@ -1,5 +1,5 @@
 //! What is printed of the ends of many runs.
-ghost use Rattle.std.specs.Prelude.{◌≡◌, ◌≤◌, ◌++◌, ℕ, List, All};
+ghost use Rattle.std.specs.Prelude.{◌≡◌, ◌≤◌, ◌++◌, All};
 ghost use Rattle.std.specs.List.{flat_map};
 ghost use Rattle.qc_io.specs.Writes.{Writes};
 ghost use Rattle.qc_odds_command.specs.Counted.{CanBeCounted};

@@ -1,5 +1,5 @@
 use Rattle.qc_run.specs.Inputs.{simulating}
-use Rattle.qc_odds_command.proofs.ForecastLemmas.{forecast_ready, forecast_told, past_unread, runs_unheld, tells_forecast}
+use Rattle.qc_odds_command.proofs.ForecastLemmas.{forecast_ready, forecast_told, past_unread, tells_forecast}
 use Rattle.qc_odds_command.proofs.command.forecast.Goals as goal
 
 pub returns-in-Err-read_past_file-clause-serves : goal.returns-in-Err-read_past_file-clause-serves
