@@ -23,6 +23,7 @@ use Rattle.qc_changes.specs.States.{Leads}
 use Rattle.qc_changes.proofs.AheadLemmas.{leads_in_order}
 use Rattle.qc_changes.proofs.Any.{any_map}
 use Rattle.qc_changes.proofs.Elements.{In, any_in, in_any}
+use Rattle.qc_changes.proofs.Tally.{tally, tally_is}
 use Rattle.qc_model.specs.declared.schedule.Slot.{Slot}
 use Rattle.qc_model.specs.Instance.{no_task, task}
 use Rattle.qc_model.specs.Rules.{Feasible, start_of}
@@ -194,17 +195,11 @@ out_earlier Load l d e a b same = absurd (cc a)
 out_earlier Discharge Discharge d e a b same = absurd (cc b)
 
 -- one that passes, of a list of which some pass
-abbrev weight : Bool → ℕ
-weight b = cond b 1 0
-
-found : {X : Type 0} (p : X → Bool) (xs : List X) (d : X) → 1 ≤ count_by p xs → (k : ℕ) × ((k < length xs) × (p (get_or xs k d) ≡ true))
+found : {X : Type 0} (p : X → Bool) (xs : List X) (d : X) → 1 ≤ tally p xs → (k : ℕ) × ((k < length xs) × (p (get_or xs k d) ≡ true))
 found p [] d some = absurd (omega arith)
 found p (x ∷ xs) d some = elim (cases_Bool (p x)) [
   | inl here ↦ (0, (omega arith, here))
-  | inr other ↦
-      let step = sum_by-cons (λ y. weight (p y)) x xs in
-      let none : weight (p x) ≡ 0 = ap weight other in
-      let (k, (low, is)) = found p xs d (omega (arith, some, step, none)) in (suc k, (omega (arith, low), is))
+  | inr other ↦ let (k, (low, is)) = found p xs d (rw other at some) in (suc k, (omega (arith, low), is))
 ]
 
 -- one that adds to a sum, of elements of which something holds
@@ -260,9 +255,9 @@ module _ (ship : ShipView) (is : IsShip ship) (rows : List Row) (moves : AreMove
   begins : (n : ℕ) → n < length rows → (j : ℕ) × ((t : ℕ) × Begins w n j t)
   begins n low =
       let once = works.once n low in
-      let parts = sum_by-flat_map (λ (m : ℕ). weight (m == n)) (order_of orders) tasks_told in
-      let (j, (j_low, some)) = adds IsNumber (λ (j : ℕ). sum_by (λ (m : ℕ). weight (m == n)) (order_of orders j)) tasks_told are_tasks (omega (arith, once, parts)) in
-      let (place, (place_low, is')) = found (λ (m : ℕ). m == n) (order_of orders j) 0 some in (
+      let sum : sum_by (λ (j : ℕ). count_by (λ (m : ℕ). m == n) (order_of orders j)) tasks_told ≡ 1 = sym (sum_by-flat_map (λ (m : ℕ). cond (m == n) 1 0) (order_of orders) tasks_told) ∙ once in
+      let (j, (j_low, some)) = adds IsNumber (λ (j : ℕ). count_by (λ (m : ℕ). m == n) (order_of orders j)) tasks_told are_tasks (omega (arith, sum)) in
+      let (place, (place_low, is')) = found (λ (m : ℕ). m == n) (order_of orders j) 0 (subst (λ (k : ℕ). 1 ≤ k) (sym (tally_is (λ (m : ℕ). m == n) (order_of orders j))) some) in (
         j,
         (
           tick_at ship (task w.inst j).phase (start_of sched j) place,
