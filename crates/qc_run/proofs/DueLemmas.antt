@@ -30,6 +30,7 @@ without_missing input.Own held names name named missing = let contents = content
 without_missing input.Log held names name named missing = let contents = contents_in held names in ap (λ (o : Option (List ℕ)). record contents { log = o }) (sym (ap (option_and_then (get held)) named ∙ missing))
 without_missing input.Arrival held names name named missing = let contents = contents_in held names in ap (λ (o : Option (List ℕ)). record contents { arrival = o }) (sym (ap (option_and_then (get held)) named ∙ missing))
 without_missing input.Departure held names name named missing = let contents = contents_in held names in ap (λ (o : Option (List ℕ)). record contents { departure = o }) (sym (ap (option_and_then (get held)) named ∙ missing))
+without_missing input.Past held names name named missing = let contents = contents_in held names in ap (λ (o : Option (List ℕ)). record contents { past = o }) (sym (ap (option_and_then (get held)) named ∙ missing))
 
 module _ {A : Type 0} (step : Contents → Result A Refusal) (names : Names) where
   -- what comes of told files is due of them

@@ -18,6 +18,7 @@ IsOwn status.BudgetNone = Unit {0}
 IsOwn status.Broken = Unit {0}
 IsOwn status.Weaker = Unit {0}
 IsOwn status.Breach = Unit {0}
+IsOwn status.NoRest = Unit {0}
 IsOwn _ = ⊥
 
 -- the same but WriteFault: the status of an answer of a command that only reads

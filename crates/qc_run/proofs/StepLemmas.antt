@@ -193,6 +193,7 @@ input_steady input.Own input.Own contents = inr refl
 input_steady input.Log input.Log contents = inr refl
 input_steady input.Arrival input.Arrival contents = inr refl
 input_steady input.Departure input.Departure contents = inr refl
+input_steady input.Past input.Past contents = inr refl
 input_steady read file contents = inl refl
 
 pub then_steady : {A B : Type 0} (step : Contents → Result A Refusal) (next : A → Contents → Result B Refusal) → Steady step → ((a : A) → Steady (next a))
@@ -218,6 +219,7 @@ same_turn input.Own contents = refl
 same_turn input.Log contents = refl
 same_turn input.Arrival contents = refl
 same_turn input.Departure contents = refl
+same_turn input.Past contents = refl
 
 pub ship_steady : Steady ship_due
 ship_steady = then_steady (input_due input.Ship) (λ bytes _. with_fault refusal.BadShip (ship_file bytes)) (input_steady input.Ship) (λ bytes file contents. inl refl)
@@ -265,11 +267,12 @@ plan_refused which asked {before = before} {bytes = bytes} first fault bad = rec
     told None = tt
     told (Some held) = ap (with_fault (refusal.BadBayPlan which)) bad
 
--- ---- no fault of a tree or of a log comes of the other files
+-- ---- no fault of a tree, of a log or of past tasks comes of the other files
 
 abbrev pub IsEarly : Refusal → Type 0
 IsEarly (refusal.BadTree fault) = ⊥
 IsEarly (refusal.BadLog fault) = ⊥
+IsEarly (refusal.BadPast fault) = ⊥
 IsEarly why = Unit {0}
 
 pub input_early : (file : Input) (bytes : Option (List ℕ)) → IfErr (within_limit file bytes) IsEarly

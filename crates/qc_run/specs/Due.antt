@@ -10,6 +10,8 @@ use Rattle.qc_bayplan.specs.declared.plan.Which.TheVariants.{Arrival, Departure}
 use Rattle.qc_gantt.specs.Plan.{plan_in}
 use Rattle.qc_model.specs.declared.schedule.Slot.{Slot}
 use Rattle.qc_model.specs.Instance.{InstanceView, with_turn}
+use Rattle.qc_past.specs.PastFile.{past_in}
+use Rattle.qc_past.specs.declared.task.PastTask.{PastTask}
 use Rattle.qc_ship.specs.Ship.{ShipView}
 use Rattle.qc_ship.specs.ShipFile.{ship_file}
 use Rattle.qc_ship.specs.Keys.{fault}
@@ -45,6 +47,7 @@ without input.Own contents = record contents { own = None }
 without input.Log contents = record contents { log = None }
 without input.Arrival contents = record contents { arrival = None }
 without input.Departure contents = record contents { departure = None }
+without input.Past contents = record contents { past = None }
 
 -- what a command finds in these files
 abbrev pub contents_in : Files → Names → Contents
@@ -57,6 +60,7 @@ contents_in held names = record {
   log = option_and_then (get held) names.log;
   arrival = option_and_then (get held) names.arrival;
   departure = option_and_then (get held) names.departure;
+  past = option_and_then (get held) names.past;
   turn = names.turn;
 }
 
@@ -151,3 +155,9 @@ bay_plans_due contents = do
   arrival ← bay_plan_due Arrival contents
   departure ← bay_plan_due Departure contents
   Ok (record { arrival = arrival; departure = departure })
+
+-- what tasks took in past calls, or the first refusal of that file
+abbrev pub past_due : Contents → Result (List PastTask) Refusal
+past_due contents = do
+  bytes ← input_due input.Past contents
+  with_fault refusal.BadPast (past_in bytes)

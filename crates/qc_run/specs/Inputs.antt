@@ -8,7 +8,9 @@ use Rattle.qc_run.specs.declared.inputs.Input.{Input}
 use Rattle.qc_run.specs.declared.inputs.Input.TheVariants as input
 use Rattle.qc_run.specs.declared.inputs.Inputs.{Inputs}
 use Rattle.qc_run.specs.declared.inputs.MovesAsked.{MovesAsked}
+use Rattle.qc_run.specs.declared.inputs.OddsAsked.{OddsAsked}
 use Rattle.qc_run.specs.declared.inputs.PlanAsked.{PlanAsked}
+use Rattle.qc_run.specs.declared.inputs.RestAsked.{RestAsked}
 
 -- one for each file, by what it is for; none where the command reads no such file; and the turn of the instance: whether
 -- schedules that go one way are asked about, or all that are feasible
@@ -21,6 +23,7 @@ pub record PerInput : Type 0 where
   pub log : Option (List ℕ)
   pub arrival : Option (List ℕ)
   pub departure : Option (List ℕ)
+  pub past : Option (List ℕ)
   pub turn : Turn
 
 abbrev pub of_input : Input → PerInput → Option (List ℕ)
@@ -32,6 +35,7 @@ of_input input.Own each = each.own
 of_input input.Log each = each.log
 of_input input.Arrival each = each.arrival
 of_input input.Departure each = each.departure
+of_input input.Past each = each.past
 
 -- the names
 abbrev pub Names : Type 0
@@ -51,6 +55,7 @@ no_names = record {
   log = None;
   arrival = None;
   departure = None;
+  past = None;
   turn = OneWay;
 }
 
@@ -64,6 +69,7 @@ names_of inputs = record {
   log = option_map (λ name. name.now) inputs.log;
   arrival = None;
   departure = None;
+  past = option_map (λ name. name.now) inputs.past;
   turn = inputs.turn;
 }
 
@@ -92,6 +98,38 @@ moving asked =
 -- the files that it reads
 abbrev pub plans_named : Moving → Names
 plans_named asked = record no_names { arrival = Some asked.arrival; departure = Some asked.departure }
+
+-- what the odds of a plan are asked for with: the files that are read, how many runs, the number that draws begin with, and
+-- a tick by which it is asked how often the ship is done
+pub record Simulating : Type 0 where
+  pub inputs : Names
+  pub runs : ℕ
+  pub seed : ℕ
+  pub by_tick : Option ℕ
+
+abbrev pub simulating : OddsAsked → Simulating
+simulating asked = record {
+  inputs = names_of asked.inputs;
+  runs = asked.runs;
+  seed = asked.seed;
+  by_tick = asked.by_tick;
+}
+
+-- what the rest of a plan is asked for with: the files that are read, and the names of the ship file, the stowage list and
+-- the planner's own plan of what is left, which are written
+pub record Replanning : Type 0 where
+  pub inputs : Names
+  pub new_ship : List ℕ
+  pub new_stow : List ℕ
+  pub own : List ℕ
+
+abbrev pub replanning : RestAsked → Replanning
+replanning asked = record {
+  inputs = names_of asked.inputs;
+  new_ship = asked.new_ship.now;
+  new_stow = asked.new_stow.now;
+  own = asked.own.now;
+}
 
 -- the file that holds a bay plan
 abbrev pub input_of : Which → Input

@@ -7,4 +7,5 @@ pub mod Ended
 pub mod Account
 pub mod Told
 pub mod Broken
+pub mod NoRest
 pub mod Moved

@@ -52,6 +52,7 @@ MayRefuse names (refusal.BadPlan fault) = IsSome names.plan ⊎ IsSome names.own
 MayRefuse names (refusal.BadTree fault) = IsSome names.tree
 MayRefuse names (refusal.BadLog fault) = IsSome names.log
 MayRefuse names (refusal.BadBayPlan which fault) = IsSome (name_of (input_of which) names)
+MayRefuse names (refusal.BadPast fault) = IsSome names.past
 
 -- want of memory comes of any command
 abbrev pub MayStop : Names → Stop → Type 0

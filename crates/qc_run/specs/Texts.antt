@@ -7,6 +7,8 @@ use Rattle.qc_gantt.specs.Faults.{kind_text as plan_kind_text}
 use Rattle.qc_gantt.specs.declared.fault.PlanFault.{PlanFault}
 use Rattle.qc_model.specs.declared.direction.Direction.{Direction}
 use Rattle.qc_model.specs.declared.direction.Direction.TheVariants.{Up, Down}
+use Rattle.qc_past.specs.Faults.{kind_text as past_text}
+use Rattle.qc_past.specs.declared.fault.PastFault.{PastFault}
 use Rattle.qc_tree.specs.Faults.{kind_text as tree_text}
 use Rattle.qc_tree.specs.declared.fault.TreeFault.{TreeFault}
 use Rattle.qc_ship.specs.declared.fault.ShipKind.{ShipKind}
@@ -50,6 +52,8 @@ status_code status.TooLarge = 15
 status_code status.BadLog = 17
 status_code status.Breach = 18
 status_code status.BadBayPlan = 19
+status_code status.NoRest = 20
+status_code status.BadPast = 21
 
 abbrev pub input_text : Input → List ℕ
 input_text input.Ship = codes "ship"
@@ -60,9 +64,10 @@ input_text input.Own = codes "own"
 input_text input.Log = codes "log"
 input_text input.Arrival = codes "arrival"
 input_text input.Departure = codes "departure"
+input_text input.Past = codes "past"
 
 abbrev pub usage_text : List ℕ
-usage_text = codes "Usage\nqc plan SHIP STOW PLAN TREE [--nodes N] [--from OWN]\nqc check SHIP STOW PLAN TREE\nqc tasks SHIP STOW\nqc show SHIP STOW PLAN\nqc make NUMBER HATCHES CRANES\nqc free SHIP STOW PLAN TREE [--nodes N] [--from OWN]\nqc freecheck SHIP STOW PLAN TREE\nqc sheet SHIP STOW PLAN\nqc dispatch SHIP STOW PLAN LOG\nqc watch SHIP LOG\nqc picture SHIP STOW PLAN\nqc report SHIP STOW PLAN\nqc moves ARRIVAL DEPARTURE STOW\n"
+usage_text = codes "Usage\nqc plan SHIP STOW PLAN TREE [--nodes N] [--from OWN]\nqc check SHIP STOW PLAN TREE\nqc tasks SHIP STOW\nqc show SHIP STOW PLAN\nqc make NUMBER HATCHES CRANES\nqc free SHIP STOW PLAN TREE [--nodes N] [--from OWN]\nqc freecheck SHIP STOW PLAN TREE\nqc sheet SHIP STOW PLAN\nqc dispatch SHIP STOW PLAN LOG\nqc watch SHIP LOG\nqc picture SHIP STOW PLAN\nqc report SHIP STOW PLAN\nqc rest SHIP STOW PLAN LOG NEWSHIP NEWSTOW OWN\nqc moves ARRIVAL DEPARTURE STOW\nqc odds SHIP STOW PLAN PAST [--runs N] [--seed S] [--by T]\n"
 
 -- a line: the text and a line feed
 abbrev pub line : List ℕ → List ℕ
@@ -110,6 +115,10 @@ bad_bay_plan_text which fault =
     codes "BadBayPlan " ++ bay_plan_text fault.kind ++ codes " " ++ which_text which ++ codes " " ++ decimal fault.number
     ++ codes "\n"
 
+-- the line of a fault in a file of past tasks with its record
+abbrev pub bad_past_text : PastFault → List ℕ
+bad_past_text fault = fault_text (codes "BadPast ") (past_text fault.kind) fault.number
+
 abbrev pub direction_text : Direction → List ℕ
 direction_text Up = codes "up"
 direction_text Down = codes "down"
@@ -125,6 +134,7 @@ refusal_text (refusal.BadPlan fault) = bad_plan_text fault
 refusal_text (refusal.BadTree fault) = bad_tree_text fault
 refusal_text (refusal.BadLog fault) = bad_log_text fault
 refusal_text (refusal.BadBayPlan which fault) = bad_bay_plan_text which fault
+refusal_text (refusal.BadPast fault) = bad_past_text fault
 
 abbrev pub refusal_status : Refusal → Status
 refusal_status refusal.Usage = status.Usage
@@ -136,6 +146,7 @@ refusal_status (refusal.BadPlan fault) = status.BadPlan
 refusal_status (refusal.BadTree fault) = status.BadTree
 refusal_status (refusal.BadLog fault) = status.BadLog
 refusal_status (refusal.BadBayPlan which fault) = status.BadBayPlan
+refusal_status (refusal.BadPast fault) = status.BadPast
 
 -- what is printed where a request stops
 abbrev pub stop_text : Stop → List ℕ

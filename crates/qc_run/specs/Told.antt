@@ -33,6 +33,7 @@ IsRefusal status.BadPlan = Unit {0}
 IsRefusal status.BadTree = Unit {0}
 IsRefusal status.BadLog = Unit {0}
 IsRefusal status.BadBayPlan = Unit {0}
+IsRefusal status.BadPast = Unit {0}
 IsRefusal _ = ⊥
 
 -- a refusal with this status was printed, and the account of the command says why it came

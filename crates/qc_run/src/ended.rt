@@ -3,6 +3,7 @@ ghost use Rattle.std.specs.Prelude.{◌≡◌, None};
 ghost use Rattle.qc_run.specs.Ended.{cause_of};
 
 use crate::broken::Broken;
+use crate::no_rest::NoRest;
 use crate::refusal::{Refusal, Stop};
 use crate::status::Status;
 use qc_model::{Name, TaskText};
@@ -38,6 +39,8 @@ pub enum Cause {
     Broken(Broken),
     /// What cranes wait for where the log of a plan that is followed ends.
     Waits(Vec<Wait>),
+    /// The rest of a plan can't be planned.
+    NoRest(NoRest),
 }
 
 /// What a run came to.

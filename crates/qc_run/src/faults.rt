@@ -1,12 +1,13 @@
-//! The lines of faults in a ship file, in a stowage list, in a plan's file, in a tree's file, in a log and in a bay
-//! plan.
+//! The lines of faults in a ship file, in a stowage list, in a plan's file, in a tree's file, in a log, in a bay plan
+//! and in a file of past tasks.
 ghost use Rattle.std.specs.Prelude.{◌≡◌, ◌≤◌, length};
-ghost use Rattle.qc_run.specs.Texts.{bad_bay_plan_text, which_text, bad_log_text, bad_ship_text, fault_text, place_line, bad_plan_text, bad_stow_text, bad_tree_text};
+ghost use Rattle.qc_run.specs.Texts.{bad_bay_plan_text, which_text, bad_log_text, bad_past_text, bad_ship_text, fault_text, place_line, bad_plan_text, bad_stow_text, bad_tree_text};
 
 use crate::refusal::LogFault;
 use qc_bayplan::{BayPlanFault, Which};
 use qc_gantt::PlanFault;
 use qc_num::Text;
+use qc_past::PastFault;
 use qc_ship::{ShipFault, ShipKind};
 use qc_stow::StowFault;
 use qc_tree::TreeFault;
@@ -78,6 +79,13 @@ pub(crate) fn log_fault_line(fault: LogFault) -> Text<512>
         LogFault::Watch(fault) => fault_line(b"BadLog ", fault.kind.text(), fault.line),
         LogFault::Dispatch(fault) => fault_line(b"BadLog ", fault.kind.text(), fault.line),
     }
+}
+
+/// The line of a fault in a file of past tasks.
+pub(crate) fn past_fault_line(fault: PastFault) -> Text<512>
+    ensures { result ≡ bad_past_text fault }
+{
+    fault_line(b"BadPast ", fault.kind.text(), fault.number)
 }
 
 /// The word for a bay plan in a report.

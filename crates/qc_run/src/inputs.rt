@@ -4,9 +4,10 @@ ghost use Rattle.qc_run.specs.Inputs.{input_of, moving, name_of, names_of, no_na
 
 use qc_bayplan::Which;
 use qc_model::Turn;
+use qc_num::Tick;
 
 /// A file that a command reads, by what it is for. `Own` is a plan that the planner has already, `Arrival` and
-/// `Departure` are the bay plans of a call at a port.
+/// `Departure` are the bay plans of a call at a port, `Past` tells how long tasks of past calls took.
 #[derive(Clone, Copy, PartialEq, Eq)]
 pub enum Input {
     Ship,
@@ -17,10 +18,12 @@ pub enum Input {
     Log,
     Arrival,
     Departure,
+    Past,
 }
 
-/// The names of the files that a command reads that reads a ship file: the others where it reads them. `own` is a plan that the planner has already. `turn` says which schedules are asked about: those that go
-/// one way, or all that are feasible.
+/// The names of the files that a command reads that reads a ship file: the others where it reads them. `own` is a plan
+/// that the planner has already. `turn` says which schedules are asked about: those that go one way, or all that are
+/// feasible.
 #[derive(Clone, Copy)]
 pub struct Inputs<'a> {
     pub ship: &'a str,
@@ -29,6 +32,7 @@ pub struct Inputs<'a> {
     pub tree: Option<&'a str>,
     pub own: Option<&'a str>,
     pub log: Option<&'a str>,
+    pub past: Option<&'a str>,
     pub turn: Turn,
 }
 
@@ -44,6 +48,7 @@ impl<'a> Inputs<'a> {
             tree: None,
             own: None,
             log: None,
+            past: None,
             turn: Turn::OneWay,
         }
     }
@@ -61,6 +66,7 @@ impl<'a> Inputs<'a> {
             Input::Log => self.log,
             Input::Arrival => None,
             Input::Departure => None,
+            Input::Past => self.past,
         }
     }
 }
@@ -87,6 +93,32 @@ pub struct MovesAsked<'a> {
     pub departure: &'a str,
     /// The stowage list, which is written.
     pub stow: &'a str,
+}
+
+/// What the odds of a plan are asked for with.
+#[derive(Clone, Copy)]
+pub struct OddsAsked<'a> {
+    /// The files that are read: a ship file, a stowage list, a plan and past tasks.
+    pub inputs: Inputs<'a>,
+    /// How many runs.
+    pub runs: u16,
+    /// What the draws begin with: equal seeds draw equal lengths.
+    pub seed: u32,
+    /// A tick by which it is asked how often the ship is done, beside the end of the plan.
+    pub by_tick: Option<Tick>,
+}
+
+/// What the rest of a plan is asked for with, in the middle of its work.
+#[derive(Clone, Copy)]
+pub struct RestAsked<'a> {
+    /// The files that are read: a ship file, a stowage list, a plan and the log of its work so far.
+    pub inputs: Inputs<'a>,
+    /// The ship file of what is left, which is written.
+    pub new_ship: &'a str,
+    /// The stowage list of what is left, which is written.
+    pub new_stow: &'a str,
+    /// The plan's file by which the old order goes on, which is written.
+    pub own: &'a str,
 }
 
 /// The file that holds a bay plan.

@@ -18,7 +18,7 @@ use qc_stow::{Moves, StowError, read_stow};
 use qc_tasks::{TasksError, tasks_of};
 use std::alloc::Global;
 
-/// The greatest length of a ship file, of a stowage list, of a plan's file, of a log and of a bay plan, in bytes.
+/// The greatest length of a file that is read whole, in bytes: of all but a tree's file.
 pub(crate) const FILE_LIMIT: usize = 8_388_608;
 
 /// The bytes of a file that the command reads.

@@ -3,8 +3,8 @@ ghost use Rattle.std.specs.Prelude.{◌≡◌, ◌++◌, codes};
 ghost use Rattle.qc_run.specs.Texts.{input_text, line, refusal_status, refusal_text, stop_status, stop_text};
 
 use crate::faults::{
-    bay_plan_fault_line, log_fault_line, plan_fault_line, ship_fault_line, stow_fault_line,
-    tree_fault_line,
+    bay_plan_fault_line, log_fault_line, past_fault_line, plan_fault_line, ship_fault_line,
+    stow_fault_line, tree_fault_line,
 };
 use crate::inputs::Input;
 use crate::status::Status;
@@ -12,6 +12,7 @@ use qc_bayplan::{BayPlanFault, Which};
 use qc_dispatch::DispatchFault;
 use qc_gantt::PlanFault;
 use qc_num::{OutOfMemory, Text};
+use qc_past::PastFault;
 use qc_ship::ShipFault;
 use qc_stow::StowFault;
 use qc_tree::TreeFault;
@@ -39,6 +40,7 @@ pub enum Refusal {
     BadTree(TreeFault),
     BadLog(LogFault),
     BadBayPlan(Which, BayPlanFault),
+    BadPast(PastFault),
 }
 
 /// Why a command was given up before anything was written.
@@ -71,7 +73,9 @@ qc dispatch SHIP STOW PLAN LOG
 qc watch SHIP LOG
 qc picture SHIP STOW PLAN
 qc report SHIP STOW PLAN
+qc rest SHIP STOW PLAN LOG NEWSHIP NEWSTOW OWN
 qc moves ARRIVAL DEPARTURE STOW
+qc odds SHIP STOW PLAN PAST [--runs N] [--seed S] [--by T]
 ";
 
 /// The line of a file that couldn't be read.
@@ -87,6 +91,7 @@ fn unread_line(file: Input) -> Text<512>
         Input::Log => Text::of(b"ReadFault log\n"),
         Input::Arrival => Text::of(b"ReadFault arrival\n"),
         Input::Departure => Text::of(b"ReadFault departure\n"),
+        Input::Past => Text::of(b"ReadFault past\n"),
     }
 }
 
@@ -103,6 +108,7 @@ fn large_line(file: Input) -> Text<512>
         Input::Log => Text::of(b"TooLarge log\n"),
         Input::Arrival => Text::of(b"TooLarge arrival\n"),
         Input::Departure => Text::of(b"TooLarge departure\n"),
+        Input::Past => Text::of(b"TooLarge past\n"),
     }
 }
 
@@ -120,6 +126,7 @@ fn refusal_text(why: Refusal) -> Text<512>
         Refusal::BadTree(fault) => tree_fault_line(fault),
         Refusal::BadLog(fault) => log_fault_line(fault),
         Refusal::BadBayPlan(which, fault) => bay_plan_fault_line(which, fault),
+        Refusal::BadPast(fault) => past_fault_line(fault),
     }
 }
 
@@ -136,6 +143,7 @@ fn refusal_status(why: Refusal) -> Status
         Refusal::BadTree(_) => Status::BadTree,
         Refusal::BadLog(_) => Status::BadLog,
         Refusal::BadBayPlan(_, _) => Status::BadBayPlan,
+        Refusal::BadPast(_) => Status::BadPast,
     }
 }
 

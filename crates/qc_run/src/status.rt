@@ -36,6 +36,9 @@ pub enum Status {
     /// Two cranes were too near.
     Breach,
     BadBayPlan,
+    /// The rest of a plan can't be planned.
+    NoRest,
+    BadPast,
 }
 
 impl Status {
@@ -62,6 +65,8 @@ impl Status {
             Status::BadLog => 17,
             Status::Breach => 18,
             Status::BadBayPlan => 19,
+            Status::NoRest => 20,
+            Status::BadPast => 21,
         }
     }
 }

@@ -23,7 +23,9 @@ command_name word =
     else (if bytes_eq word (codes "picture") then Some name.Picture
     else (if bytes_eq word (codes "report") then Some name.Report
     else (if bytes_eq word (codes "moves") then Some name.Moves
-    else None))))))))))))
+    else (if bytes_eq word (codes "odds") then Some name.Odds
+    else (if bytes_eq word (codes "rest") then Some name.Rest
+    else None))))))))))))))
 
 -- and that of a command line
 abbrev pub named : List (List ℕ) → Option CommandName
@@ -54,6 +56,11 @@ abbrev pub search_command : List ℕ → App
 search_command name =
     command_with_options name (codes "ship" ∷ codes "stow" ∷ codes "plan" ∷ codes "tree" ∷ []) (codes "nodes" ∷ codes "from" ∷ [])
 
+-- the command that tells the odds of a plan: its operands, and the options `--runs`, `--seed` and `--by`
+abbrev pub odds_command : App
+odds_command =
+    command_with_options (codes "odds") (codes "ship" ∷ codes "stow" ∷ codes "plan" ∷ codes "past" ∷ []) (codes "runs" ∷ codes "seed" ∷ codes "by" ∷ [])
+
 -- each command, with its operands
 abbrev pub command_of : CommandName → App
 command_of name.Plan = search_command (codes "plan")
@@ -74,6 +81,10 @@ command_of name.Picture = command_with (codes "picture") (codes "ship" ∷ codes
 command_of name.Report = command_with (codes "report") (codes "ship" ∷ codes "stow" ∷ codes "plan" ∷ [])
 command_of name.Moves =
     command_with (codes "moves") (codes "arrival" ∷ codes "departure" ∷ codes "stow" ∷ [])
+command_of name.Odds = odds_command
+command_of name.Rest =
+    command_with (codes "rest")
+    (codes "ship" ∷ codes "stow" ∷ codes "plan" ∷ codes "log" ∷ codes "newship" ∷ codes "newstow" ∷ codes "own" ∷ [])
 
 -- what the command reads from the words, or nothing where it refuses them
 abbrev pub read_by : App → List (List ℕ) → Option (List Row)

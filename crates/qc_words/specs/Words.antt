@@ -8,8 +8,8 @@ use Rattle.qc_model.specs.Numbers.{most_branchings, most_cranes, most_hatches}
 use Rattle.qc_model.specs.declared.turn.Turn.{Turn}
 use Rattle.qc_model.specs.declared.turn.Turn.TheVariants.{OneWay, Free}
 use Rattle.qc_num.specs.Digits.{number_in}
-use Rattle.qc_run.specs.Inputs.{Moving, Names, Planning, no_names}
-use Rattle.qc_words.specs.Asked.{Asked, read, plan, list, make, help, version, usage, are_different, given, listing, most_number}
+use Rattle.qc_run.specs.Inputs.{Moving, Names, Planning, Replanning, Simulating, no_names}
+use Rattle.qc_words.specs.Asked.{Asked, read, plan, list, simulate, replan, make, help, version, usage, are_different, given, listing, renewing, most_number, most_runs, most_seed, tick_digits}
 use Rattle.qc_words.specs.declared.asked.Reader.TheVariants as reader
 use Rattle.qc_words.specs.Commands.{command_of, named, read_by, command_name}
 use Rattle.qc_words.specs.declared.commands.CommandName.{CommandName}
@@ -47,6 +47,10 @@ about _ = None
 abbrev pub usual_branchings : ℕ
 usual_branchings = 20000
 
+-- how many runs odds are of where the words don't say it
+abbrev pub usual_runs : ℕ
+usual_runs = 1000
+
 -- the number that the text is in plain decimal, where it is in range
 abbrev pub number_between : (least most : ℕ) → List ℕ → Option ℕ
 number_between least most text =
@@ -61,6 +65,21 @@ value_of name rows = unwrap_or (first_of name rows) []
 abbrev pub nodes_in : Option (List ℕ) → Option ℕ
 nodes_in None = Some usual_branchings
 nodes_in (Some text) = number_between 0 most_branchings text
+
+-- how many runs `--runs` gives, and where it isn't there
+abbrev pub runs_in : Option (List ℕ) → Option ℕ
+runs_in None = Some usual_runs
+runs_in (Some text) = number_between 1 most_runs text
+
+-- what `--seed` says that draws begin with, and where it isn't there
+abbrev pub seed_in : Option (List ℕ) → Option ℕ
+seed_in None = Some 0
+seed_in (Some text) = number_between 0 most_seed text
+
+-- the tick that `--by` gives, which needn't be there
+abbrev pub by_in : Option (List ℕ) → Option (Option ℕ)
+by_in None = Some None
+by_in (Some text) = option_map (λ tick. Some tick) (number_in tick_digits text)
 
 -- what is made by three numbers that are in range
 abbrev pub make_of : (number hatches cranes : Option ℕ) → Asked
@@ -79,6 +98,10 @@ planned rows = record (listed rows) { plan = Some (value_of (codes "plan") rows)
 -- these, and a log that a plan is followed by
 abbrev pub followed : List Row → Names
 followed rows = record (planned rows) { log = Some (value_of (codes "log") rows) }
+
+-- a ship file, a list, a plan, and what tasks of past calls took
+abbrev pub weighed : List Row → Names
+weighed rows = record (planned rows) { past = Some (value_of (codes "past") rows) }
 
 -- a ship file and a log of reported places
 abbrev pub watched : List Row → Names
@@ -123,6 +146,28 @@ moves_in rows = moves_of (record {
   stow = value_of (codes "stow") rows;
 })
 
+-- odds, where each number of the options is in its range
+abbrev pub odds_of : Names → (runs seed : Option ℕ) → Option (Option ℕ) → Asked
+odds_of names (Some runs) (Some seed) (Some tick) =
+    simulate (record { inputs = names; runs = runs; seed = seed; by_tick = tick })
+odds_of _ _ _ _ = usage
+
+abbrev pub odds_in : List Row → Asked
+odds_in rows = odds_of (weighed rows) (runs_in (first_of (codes "runs") rows)) (seed_in (first_of (codes "seed") rows))
+    (by_in (first_of (codes "by") rows))
+
+-- the rest of a plan, where its names are different
+abbrev pub rest_of : Replanning → Asked
+rest_of asked = if are_different (renewing asked) then replan asked else usage
+
+abbrev pub rest_in : List Row → Asked
+rest_in rows = rest_of (record {
+  inputs = followed rows;
+  new_ship = value_of (codes "newship") rows;
+  new_stow = value_of (codes "newstow") rows;
+  own = value_of (codes "own") rows;
+})
+
 -- what a command asks for by the values that were read
 abbrev pub asked_in : CommandName → List Row → Asked
 asked_in name.Plan rows = plan_in OneWay rows
@@ -141,6 +186,8 @@ asked_in name.Dispatch rows = read reader.Dispatch (followed rows)
 asked_in name.Picture rows = read reader.Picture (planned rows)
 asked_in name.Report rows = read reader.Report (planned rows)
 asked_in name.Moves rows = moves_in rows
+asked_in name.Odds rows = odds_in rows
+asked_in name.Rest rows = rest_in rows
 
 -- what words ask of a command: Usage where no command begins them, where `clap` refuses them, where a
 -- number isn't one in plain decimal and in range, and where the names of a command that writes aren't different

@@ -1,10 +1,16 @@
 //! What the words ask for.
 
 use crate::commands::CommandName;
-use qc_run::{Inputs, MovesAsked, PlanAsked};
+use qc_run::{Inputs, MovesAsked, OddsAsked, PlanAsked, RestAsked};
 
 /// The greatest number that a ship and a list are made from.
 pub const MOST_NUMBER: u32 = 2_147_483_647;
+
+/// The most runs that odds are asked for with.
+pub const MOST_RUNS: u16 = 10_000;
+
+/// The greatest number that draws begin with.
+pub const MOST_SEED: u32 = 2_147_483_647;
 
 /// A command that only reads files, and reports.
 #[derive(Clone, Copy)]
@@ -38,6 +44,10 @@ pub enum Request<'a> {
     Plans(PlanAsked<'a>),
     /// A list of the moves between two bay plans.
     Moves(MovesAsked<'a>),
+    /// The odds of a plan by what tasks of past calls took.
+    Odds(OddsAsked<'a>),
+    /// The files of what is left of a plan in the middle of its work.
+    Rest(RestAsked<'a>),
     /// A ship and a list made from a number, planned and checked.
     Make {
         number: u32,

@@ -3,7 +3,7 @@
 ghost use Rattle.std.specs.Prelude.{◌≡◌, IfOk, map};
 ghost use Rattle.qc_words.specs.Words.{texts};
 ghost use Rattle.clap.specs.Words.{app_of};
-ghost use Rattle.qc_words.specs.Commands.{command_name, named, command_with_options, command_with, command_of, search_command};
+ghost use Rattle.qc_words.specs.Commands.{command_name, named, command_with_options, command_with, command_of, odds_command, search_command};
 
 use clap::{Arg, Command};
 use std::alloc::{AllocError, Global};
@@ -24,6 +24,8 @@ pub enum CommandName {
     Picture,
     Report,
     Moves,
+    Odds,
+    Rest,
 }
 
 /// The command with this name.
@@ -44,6 +46,8 @@ pub(crate) fn command_name(word: &str) -> Option<CommandName>
         "picture" => Some(CommandName::Picture),
         "report" => Some(CommandName::Report),
         "moves" => Some(CommandName::Moves),
+        "odds" => Some(CommandName::Odds),
+        "rest" => Some(CommandName::Rest),
         _ => None,
     }
 }
@@ -99,6 +103,18 @@ fn search_command<'a>(alloc: Global, name: &'a str) -> Result<Command<'a>, Alloc
     )
 }
 
+/// The command that tells the odds of a plan, with its operands and its options.
+fn odds_command<'a>(alloc: Global) -> Result<Command<'a>, AllocError>
+    ensures { IfOk result (λ command. app_of command ≡ odds_command) }
+{
+    command_with_options(
+        alloc,
+        "odds",
+        &["ship", "stow", "plan", "past"],
+        &["runs", "seed", "by"],
+    )
+}
+
 /// The command as `clap` is told it.
 pub fn command_of<'a>(alloc: Global, name: CommandName) -> Result<Command<'a>, AllocError>
     ensures { IfOk result (λ command. app_of command ≡ command_of name) }
@@ -119,5 +135,11 @@ pub fn command_of<'a>(alloc: Global, name: CommandName) -> Result<Command<'a>, A
         CommandName::Picture => command_with(alloc, "picture", &["ship", "stow", "plan"]),
         CommandName::Report => command_with(alloc, "report", &["ship", "stow", "plan"]),
         CommandName::Moves => command_with(alloc, "moves", &["arrival", "departure", "stow"]),
+        CommandName::Odds => odds_command(alloc),
+        CommandName::Rest => command_with(
+            alloc,
+            "rest",
+            &["ship", "stow", "plan", "log", "newship", "newstow", "own"],
+        ),
     }
 }

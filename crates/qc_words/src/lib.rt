@@ -11,7 +11,7 @@ mod commands;
 mod help;
 mod words;
 
-pub use asked::{MOST_NUMBER, Reader, Request};
+pub use asked::{MOST_NUMBER, MOST_RUNS, MOST_SEED, Reader, Request};
 pub use commands::CommandName;
 pub use help::{help_text, version_text};
-pub use words::{USUAL_BRANCHINGS, request_of};
+pub use words::{USUAL_BRANCHINGS, USUAL_RUNS, request_of};
