@@ -226,7 +226,9 @@ fn say_no_option(page: &mut Page, form: &Form, word: &str) {
         return page.text("the nearest is ").text(near).end();
     }
     if form.has_options() {
-        page.text("it has ").text(form.told_options()).text(", and ");
+        page.text("it has ")
+            .text(form.told_options())
+            .text(", and ");
     }
     page.text("a file of that name is written ./")
         .word(word)
