@@ -1,14 +1,16 @@
 -- What is asked for keeps the limits, whatever the words are.
-use Rattle.std.proofs.Common.{refl, ℕ, ◌≤◌, ◌&&◌, ◌||◌, IfSome, IsSome, bytes_eq, lit≤, nat_le, cond, List, [], ◌∷◌, Option, None, Some, codes, arith, option_and_then, option_map, unwrap_or}
+use Rattle.std.proofs.Common.{refl, ℕ, ◌<◌, ◌≤◌, ◌^◌, ◌&&◌, ◌||◌, IfSome, IsSome, bytes_eq, lit≤, nat_le, cond, List, [], ◌∷◌, Option, None, Some, codes, arith, option_and_then, option_map, unwrap_or}
 use Rattle.std.proofs.lemmas.Bool.{cond_both}
 use Rattle.std.proofs.lemmas.Bool.Decides.{nat_tests}
 use Rattle.std.specs.Option.{option_map_or}
+use Rattle.std.specs.Str.Parse.{digits_value}
 use Rattle.clap.proofs.WalkLemmas.{both}
 use Rattle.clap.specs.Words.{Row, Text, first_of}
 use Rattle.qc_model.specs.Numbers.{most_branchings, most_cranes, most_hatches}
 use Rattle.qc_model.specs.declared.turn.Turn.{Turn}
 use Rattle.qc_model.specs.declared.turn.Turn.TheVariants.{OneWay, Free}
-use Rattle.qc_num.specs.Digits.{number_in}
+use Rattle.qc_num.specs.Digits.{is_plain, number_in}
+use Rattle.qc_num.proofs.DigitLemmas.{plain_parts, value_fits}
 use Rattle.qc_run.specs.Inputs.{Moving, Names, Planning, Replanning}
 use Rattle.qc_words.specs.declared.asked.Reader.TheVariants as reader
 use Rattle.qc_words.specs.declared.commands.CommandName.{CommandName}
@@ -75,6 +77,11 @@ runs_kept (Some text) = number_kept 1 most_runs text
 seed_kept : (text : Option Text) → IsBetween 0 most_seed (seed_in text)
 seed_kept None = (lit≤ tt, lit≤ tt)
 seed_kept (Some text) = number_kept 0 most_seed text
+
+number_small : (most : ℕ) (text : Text) → IfSome (number_in most text) (λ n. n < 10 ^ most)
+number_small most text =
+    cond_both (is_plain most text) (Some (digits_value 10 text)) None (λ o. IfSome o (λ n. n < 10 ^ most))
+    (λ yes. let plain = plain_parts text most yes in value_fits text most plain.digits plain.few) (λ _. tt)
 
 abbrev IsEarly : Option (Option ℕ) → Type 0
 IsEarly tick = IfSome tick (λ t. IfSome t (λ n. n < 10 ^ tick_digits))
