@@ -82,9 +82,9 @@ fn say_call(
     most: usize,
 ) -> usize {
     let mut left = most;
-    for phase in PHASES {
-        if left > 0 && is_stood_in(tasks, inst, phase) {
-            say_other(page, file, tasks, phase);
+    for phase in &PHASES {
+        if left > 0 && is_stood_in(tasks, inst, *phase) {
+            say_other(page, file, tasks, *phase);
             left = left.saturating_sub(1);
         }
     }

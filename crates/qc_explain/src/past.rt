@@ -81,11 +81,14 @@ fn say_call(page: &mut Page, table: &Table<'_>, number: u32) {
         .end()
 }
 
+/// What may stand for a phase.
+const PHASES: [&str; 5] = ["DD", "DH", "LH", "LD", "-"];
+
 /// The phase that is meant, where only capital letters are missing or spaces stand around it.
 fn meant_phase(field: &[u8]) -> Option<&'static str> {
-    for phase in ["DD", "DH", "LH", "LD", "-"] {
+    for phase in &PHASES {
         if field.trim_ascii().eq_ignore_ascii_case(phase.as_bytes()) {
-            return Some(phase);
+            return Some(*phase);
         }
     }
     None
