@@ -1,0 +1,3 @@
+pub mod OddsLemmas
+pub mod ForecastLemmas
+pub mod PromiseLemmas
