@@ -5,7 +5,7 @@ use qc_page::nearest;
 use std::alloc::Global;
 
 /// The names of the commands.
-const NAMES: [&str; 15] = [
+const NAMES: [&str; 14] = [
     "plan",
     "check",
     "tasks",
@@ -18,13 +18,12 @@ const NAMES: [&str; 15] = [
     "watch",
     "picture",
     "report",
-    "rest",
     "moves",
     "odds",
 ];
 
 /// The commands, each with its operands and with its options in brackets.
-const LINES: [&str; 15] = [
+const LINES: [&str; 14] = [
     "plan SHIP STOW PLAN TREE [--nodes N] [--from OWN]",
     "check SHIP STOW PLAN TREE",
     "tasks SHIP STOW",
@@ -37,7 +36,6 @@ const LINES: [&str; 15] = [
     "watch SHIP LOG",
     "picture SHIP STOW PLAN",
     "report SHIP STOW PLAN",
-    "rest SHIP STOW PLAN LOG NEWSHIP NEWSTOW OWN",
     "moves ARRIVAL DEPARTURE STOW",
     "odds SHIP STOW PLAN PAST [--runs N] [--seed S] [--by T]",
 ];
@@ -49,7 +47,7 @@ const SEARCH_OPTIONS: [&str; 2] = ["--nodes", "--from"];
 const ODDS_OPTIONS: [&str; 3] = ["--runs", "--seed", "--by"];
 
 /// The commands that write files, of which no two names may be equal.
-const WRITERS: [&str; 4] = ["plan", "free", "moves", "rest"];
+const WRITERS: [&str; 3] = ["plan", "free", "moves"];
 
 /// A command with its words.
 #[derive(Clone, Copy)]
@@ -125,8 +123,7 @@ impl Form {
     pub(crate) fn told_count(&self) -> &'static str {
         match self.count() {
             3 => "three",
-            4 => "four",
-            _ => "seven",
+            _ => "four",
         }
     }
 

@@ -6,7 +6,7 @@ use Rattle.qc_run.specs.declared.refusal.Stop.{Stop}
 use Rattle.qc_run.specs.declared.status.Status.{Status}
 use Rattle.qc_run.specs.declared.status.Status.TheVariants as status
 use Rattle.qc_run.specs.Due.{bay_plans_due, contents_in}
-use Rattle.qc_run.specs.Inputs.{Moving, plans_named}
+use Rattle.qc_run.specs.Inputs.{Moving, bay_plans_named}
 use Rattle.qc_run.specs.Reports.{Printing, Prints, PrintsPart, answer_prints, answer_status}
 use Rattle.qc_run.specs.Told.{EndsBy, IsCutTold, NoneFailed}
 use Rattle.qc_run.proofs.DueLemmas.{comes_due}
@@ -82,15 +82,15 @@ module _ (asked : Moving) (before after pb pa : View) (ended : Status) (run : Is
     ends plans s = s ≡ status.Done
 
     abbrev Ends : Files → Status → Type 0
-    Ends held s = EndsBy ends (bay_plans_due (contents_in held (plans_named asked))) s ⊎ (s ≡ status.OutOfMemory)
+    Ends held s = EndsBy ends (bay_plans_due (contents_in held (bay_plans_named asked))) s ⊎ (s ≡ status.OutOfMemory)
 
     answer_ends : (held : Files) → before.files ≡ Some held → (r : Result MovesAnswer Stop) → account r
         → Ends held (answer_status moves_status r)
     answer_ends held told (Err why) serves =
-        stop_due bay_plans_due ends (plans_named asked) before after held told none.reading why serves.0
+        stop_due bay_plans_due ends (bay_plans_named asked) before after held told none.reading why serves.0
     answer_ends held told (Ok answer.WriteFault) serves = absurd (none.writing serves.0.rose)
     answer_ends held told (Ok (answer.Listed figures)) serves =
-        let due = comes_due bay_plans_due (plans_named asked) held before.files told (Ok serves.0.found.plans) serves.0.found.due in
+        let due = comes_due bay_plans_due (bay_plans_named asked) held before.files told (Ok serves.0.found.plans) serves.0.found.due in
         inl (rw due refl)
 
     complete : (files : Option Files) → before.files ≡ files → IfSome files (λ held. Ends held ended)

@@ -5,7 +5,7 @@ use Rattle.qc_changes.specs.ListText.{list_text}
 use Rattle.qc_io.specs.Outside.{Files, Rose, View, with_file}
 use Rattle.qc_run.specs.declared.bay_plans.BayPlans.{BayPlans}
 use Rattle.qc_run.specs.Due.{bay_plans_due}
-use Rattle.qc_run.specs.Inputs.{Moving, plans_named}
+use Rattle.qc_run.specs.Inputs.{Moving, bay_plans_named}
 use Rattle.qc_run.specs.Steps.{ComesTo}
 use Rattle.qc_moves_command.specs.declared.answer.MovesAnswer.{MovesAnswer}
 use Rattle.qc_moves_command.specs.declared.answer.MovesAnswer.TheVariants as answer
@@ -15,7 +15,7 @@ module _ (asked : Moving) (before mid : View) (files : mid.files ≡ before.file
   abbrev found_before : AreFound asked mid → AreFound asked before
   found_before f = record {
     plans = f.plans;
-    due = subst (λ (held : Option Files). ComesTo bay_plans_due (plans_named asked) held (Ok f.plans)) files f.due;
+    due = subst (λ (held : Option Files). ComesTo bay_plans_due (bay_plans_named asked) held (Ok f.plans)) files f.due;
     changes = f.changes;
     between = f.between;
   }
@@ -41,11 +41,11 @@ module _ (asked : Moving) (before mid : View) (files : mid.files ≡ before.file
   }
 
   -- what was found, seen by the shelf as it was left behind the reading
-  abbrev pub found_behind : (plans : BayPlans) → ComesTo bay_plans_due (plans_named asked) before.files (Ok plans)
+  abbrev pub found_behind : (plans : BayPlans) → ComesTo bay_plans_due (bay_plans_named asked) before.files (Ok plans)
       → (c : ChangesView) → IsBetween plans c → AreFound asked mid
   found_behind plans due c between = record {
     plans = plans;
-    due = subst (λ (held : Option Files). ComesTo bay_plans_due (plans_named asked) held (Ok plans)) (sym files) due;
+    due = subst (λ (held : Option Files). ComesTo bay_plans_due (bay_plans_named asked) held (Ok plans)) (sym files) due;
     changes = c;
     between = between;
   }

@@ -9,7 +9,7 @@ use Rattle.qc_run.specs.declared.bay_plans.BayPlans.{BayPlans}
 use Rattle.qc_run.specs.declared.refusal.Stop.{Stop}
 use Rattle.qc_run.specs.declared.status.Status.{Status}
 use Rattle.qc_run.specs.Due.{bay_plans_due}
-use Rattle.qc_run.specs.Inputs.{Moving, plans_named}
+use Rattle.qc_run.specs.Inputs.{Moving, bay_plans_named}
 use Rattle.qc_run.specs.Reports.{IsRun, Prints, PrintsPart}
 use Rattle.qc_run.specs.Steps.{ComesTo, MayStop, Stops}
 use Rattle.qc_ship.specs.Ship.{ShipView}
@@ -33,7 +33,7 @@ pub record IsBetween (plans : BayPlans) (c : ChangesView) : Type 0 where
 -- both plans were read, and this leads from the one to the other
 pub record AreFound (asked : Moving) (before : View) : Type 0 where
   pub plans : BayPlans
-  pub due : ComesTo bay_plans_due (plans_named asked) before.files (Ok plans)
+  pub due : ComesTo bay_plans_due (bay_plans_named asked) before.files (Ok plans)
   pub changes : ChangesView
   pub between : IsBetween plans changes
 
@@ -64,7 +64,7 @@ Writes asked before after (answer.Listed told) = IsListed asked before after tol
 abbrev pub IsListing : Moving → View → View → Result MovesAnswer Stop → Type 0
 IsListing asked before after (Ok a) = Writes asked before after a × (after.read_faults ≡ before.read_faults)
 IsListing asked before after (Err why) =
-    Stops bay_plans_due (plans_named asked) before after why × MayStop (plans_named asked) why
+    Stops bay_plans_due (bay_plans_named asked) before after why × MayStop (bay_plans_named asked) why
     × (after.files ≡ before.files) × (after.faults ≡ before.faults) × (after.made ≡ before.made)
 
 -- a run of the command: it lists the moves, and reports

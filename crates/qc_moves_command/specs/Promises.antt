@@ -5,7 +5,7 @@ use Rattle.qc_run.specs.declared.bay_plans.BayPlans.{BayPlans}
 use Rattle.qc_run.specs.declared.status.Status.{Status}
 use Rattle.qc_run.specs.declared.status.Status.TheVariants as status
 use Rattle.qc_run.specs.Due.{bay_plans_due, contents_in}
-use Rattle.qc_run.specs.Inputs.{Moving, plans_named}
+use Rattle.qc_run.specs.Inputs.{Moving, bay_plans_named}
 use Rattle.qc_run.specs.Reports.{Prints, PrintsPart}
 use Rattle.qc_run.specs.Told.{EndsBy, IsCutTold, IsRefusal, IsRefusalTold, NoneFailed}
 use Rattle.qc_moves_command.specs.declared.answer.Figures.{Figures}
@@ -46,5 +46,5 @@ pub record MovesPromises (asked : Moving) (before after out_before out_after : V
   pub out_of_memory : ended ≡ status.OutOfMemory → Prints (codes "OutOfMemory\n") out_before.written out_after.written
   -- what is due of the files comes where no call failed, or want of memory does
   pub complete : NoneFailed before after out_before out_after → IfSome before.files (λ held.
-      EndsBy (λ plans s. s ≡ status.Done) (bay_plans_due (contents_in held (plans_named asked))) ended
+      EndsBy (λ plans s. s ≡ status.Done) (bay_plans_due (contents_in held (bay_plans_named asked))) ended
       ⊎ (ended ≡ status.OutOfMemory))

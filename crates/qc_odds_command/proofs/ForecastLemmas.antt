@@ -20,7 +20,7 @@ use Rattle.qc_odds_command.specs.Forecasts.{TellsForecast}
 use Rattle.qc_odds_command.specs.Ready.{IsReady}
 use Rattle.qc_odds_command.proofs.OddsLemmas.{can_be_counted, can_be_summed, first_by}
 
-module _ {asked : Simulating} {before mid after : View} {job : Job} (first : IsStep job_due asked.inputs before mid (Ok job))
+module _ (asked : Simulating) {before mid after : View} {job : Job} (first : IsStep job_due asked.inputs before mid (Ok job))
     (feasible : Feasible job.inst job.sched) where
   -- past tasks couldn't be read
   pub past_unread : {why : Stop} → IsStep {A = List PastTask} past_due asked.inputs mid after (Err why) → IsOddsAccount asked before after (Err why)
@@ -70,7 +70,7 @@ module _ {asked : Simulating} {before mid after : View} {job : Job} (first : IsS
     }
 
 -- what is told of runs that were worked
-module _ {asked : Simulating} {past : List PastTask} {job : Job} (odds : Odds)
+module _ (asked : Simulating) {past : List PastTask} {job : Job} (odds : Odds)
     (is : AreOdds past job.inst job.sched asked.seed asked.runs odds) (some : 1 ≤ asked.runs) where
   pub tells_forecast : Feasible job.inst job.sched
       → TellsForecast asked past job (record { job = job; odds = odds; by_tick = asked.by_tick })

@@ -76,7 +76,6 @@ fn put_asked<K: Sink>(tally: &Tally, by: Option<Tick>, sink: &mut K) -> Result<(
 }
 
 /// Writes the chances that a run is over by the end of the plan, and by the tick that is asked about.
-#[tactic(auto, using(qc_io::proofs::WritesLemmas::writes_cut))]
 fn put_kept<K: Sink>(
     tally: &Tally,
     planned: Tick,
@@ -92,7 +91,6 @@ fn put_kept<K: Sink>(
 }
 
 /// Writes by which ticks runs are over, and how likely.
-#[tactic(auto, using(qc_io::proofs::WritesLemmas::writes_cut))]
 fn put_chances<K: Sink>(
     tally: &Tally,
     planned: Tick,
@@ -108,7 +106,6 @@ fn put_chances<K: Sink>(
 }
 
 /// Writes what the ends of the runs come to.
-#[tactic(auto, using(qc_io::proofs::WritesLemmas::writes_cut))]
 pub(crate) fn put_ends<K: Sink>(
     tally: &Tally,
     planned: Tick,

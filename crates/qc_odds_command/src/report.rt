@@ -13,7 +13,6 @@ use qc_model::ends;
 use qc_run::{Ended, Status, report_broken};
 
 /// Writes what the runs of a plan come to.
-#[tactic(auto, using(qc_io::proofs::WritesLemmas::writes_cut))]
 fn put_forecast<K: Sink>(told: &Forecast, sink: &mut K) -> Result<(), WriteFault>
     requires { IsReady told.now }
     ensures { Writes (K.view sink.old) (K.view sink.new) (forecast_text told.now) result }

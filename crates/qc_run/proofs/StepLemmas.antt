@@ -23,7 +23,7 @@ use Rattle.qc_run.specs.declared.refusal.Refusal.{Refusal}
 use Rattle.qc_run.specs.declared.refusal.Refusal.TheVariants as refusal
 use Rattle.qc_run.specs.declared.refusal.Stop.{Stop}
 use Rattle.qc_run.specs.declared.refusal.Stop.TheVariants as stop
-use Rattle.qc_run.specs.Inputs.{IsWhole, Moving, Names, input_of, name_of, plans_named}
+use Rattle.qc_run.specs.Inputs.{IsWhole, Moving, Names, bay_plans_named, input_of, name_of}
 use Rattle.qc_ship.specs.Keys.{fault}
 use Rattle.qc_ship.specs.declared.fault.Key.TheVariants as key
 use Rattle.qc_ship.specs.declared.fault.ShipKind.TheVariants as kind
@@ -234,11 +234,11 @@ instance_steady =
     (λ rows file contents. inl (ap (λ (turn : Turn). order_due ship rows >>= λ inst. Ok (with_turn inst turn)) (same_turn file contents))))
 
 -- a bay plan's file is named, and is read whole
-pub plan_named : (which : Which) (asked : Moving) → IsSome (name_of (input_of which) (plans_named asked))
+pub plan_named : (which : Which) (asked : Moving) → IsSome (name_of (input_of which) (bay_plans_named asked))
 plan_named Arrival asked = refl
 plan_named Departure asked = refl
 
-pub plan_whole : (which : Which) (asked : Moving) → IsWhole (input_of which) (plans_named asked)
+pub plan_whole : (which : Which) (asked : Moving) → IsWhole (input_of which) (bay_plans_named asked)
 plan_whole Arrival asked = refl
 plan_whole Departure asked = refl
 
@@ -247,13 +247,13 @@ plan_steady which = then_steady (input_due (input_of which)) (λ bytes _. with_f
 
 -- a fault of a bay plan, whose file was read
 pub plan_refused : (which : Which) (asked : Moving) {before after : View} {bytes : List ℕ}
-    → IsStep (input_due (input_of which)) (plans_named asked) before after (Ok bytes) → (fault : BayPlanFault) → bay_plan_in which bytes ≡ Err fault
-    → IsStep (bay_plan_due which) (plans_named asked) before after (Err (stop.Refused (refusal.BadBayPlan which fault)))
+    → IsStep (input_due (input_of which)) (bay_plans_named asked) before after (Ok bytes) → (fault : BayPlanFault) → bay_plan_in which bytes ≡ Err fault
+    → IsStep (bay_plan_due which) (bay_plans_named asked) before after (Err (stop.Refused (refusal.BadBayPlan which fault)))
 plan_refused which asked {before = before} {bytes = bytes} first fault bad = record {
   ok = tt;
   err = (
     first.ok.0,
-    comes_then (input_due (input_of which)) (λ read _. with_fault (refusal.BadBayPlan which) (bay_plan_in which read)) (plans_named asked) before.files bytes
+    comes_then (input_due (input_of which)) (λ read _. with_fault (refusal.BadBayPlan which) (bay_plan_in which read)) (bay_plans_named asked) before.files bytes
         (Err (refusal.BadBayPlan which fault)) first.ok.1 (told before.files),
   );
   may = plan_named which asked;

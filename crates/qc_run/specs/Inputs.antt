@@ -96,8 +96,8 @@ moving asked =
     record { arrival = asked.arrival.now; departure = asked.departure.now; stow = asked.stow.now }
 
 -- the files that it reads
-abbrev pub plans_named : Moving → Names
-plans_named asked = record no_names { arrival = Some asked.arrival; departure = Some asked.departure }
+abbrev pub bay_plans_named : Moving → Names
+bay_plans_named asked = record no_names { arrival = Some asked.arrival; departure = Some asked.departure }
 
 -- what the odds of a plan are asked for with: the files that are read, how many runs, the number that draws begin with, and
 -- a tick by which it is asked how often the ship is done

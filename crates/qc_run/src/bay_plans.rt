@@ -1,6 +1,6 @@
 //! The bay plans of a ship as it arrives and for its departure.
 ghost use Rattle.std.specs.Prelude.{◌≡◌, ◌≤◌, IfOk, length};
-ghost use Rattle.qc_run.specs.Inputs.{input_of, moving, plans_named};
+ghost use Rattle.qc_run.specs.Inputs.{bay_plans_named, input_of, moving};
 ghost use Rattle.qc_run.specs.Due.{bay_plan_due, bay_plans_due, file_limit, input_due};
 ghost use Rattle.qc_run.specs.Steps.{IsStep};
 
@@ -20,13 +20,13 @@ pub struct BayPlans {
 }
 
 /// The bytes of a bay plan's file.
-fn read_bytes<S: Shelf>(
+fn read_bay_plan_input<S: Shelf>(
     alloc: Global,
     asked: &MovesAsked<'_>,
     which: Which,
     shelf: &mut S,
 ) -> Result<Bytes, Stop>
-    ensures step { IsStep (input_due (input_of which)) (plans_named (moving asked.now))
+    ensures step { IsStep (input_due (input_of which)) (bay_plans_named (moving asked.now))
         (S.Sink.view shelf.old) (S.Sink.view shelf.new) result }
     ensures within { IfOk result (λ bytes. length bytes ≤ file_limit) }
 {
@@ -45,10 +45,10 @@ fn read_one<S: Shelf>(
     which: Which,
     shelf: &mut S,
 ) -> Result<BayPlan, Stop>
-    ensures { IsStep (bay_plan_due which) (plans_named (moving asked.now))
+    ensures { IsStep (bay_plan_due which) (bay_plans_named (moving asked.now))
         (S.Sink.view shelf.old) (S.Sink.view shelf.new) result }
 {
-    let bytes = read_bytes(alloc, asked, which, shelf)?;
+    let bytes = read_bay_plan_input(alloc, asked, which, shelf)?;
     match read_bay_plan(alloc, bytes.as_slice(), which) {
         Ok(plan) => Ok(plan),
         Err(BayPlanError::Fault(fault)) => Err(Stop::Refused(Refusal::BadBayPlan(which, fault))),
@@ -62,7 +62,7 @@ pub fn read_bay_plans<S: Shelf>(
     asked: &MovesAsked<'_>,
     shelf: &mut S,
 ) -> Result<BayPlans, Stop>
-    ensures { IsStep bay_plans_due (plans_named (moving asked.now))
+    ensures { IsStep bay_plans_due (bay_plans_named (moving asked.now))
         (S.Sink.view shelf.old) (S.Sink.view shelf.new) result }
 {
     let arrival = read_one(alloc, asked, Which::Arrival, shelf)?;

@@ -1,6 +1,6 @@
 //! The files that a command reads.
 ghost use Rattle.std.specs.Prelude.{◌≡◌, Some, option_map};
-ghost use Rattle.qc_run.specs.Inputs.{input_of, moving, name_of, names_of, no_names, plans_named};
+ghost use Rattle.qc_run.specs.Inputs.{bay_plans_named, input_of, moving, name_of, names_of, no_names};
 
 use qc_bayplan::Which;
 use qc_model::Turn;
@@ -21,9 +21,9 @@ pub enum Input {
     Past,
 }
 
-/// The names of the files that a command reads that reads a ship file: the others where it reads them. `own` is a plan
-/// that the planner has already. `turn` says which schedules are asked about: those that go one way, or all that are
-/// feasible.
+/// The names of the files of a command that reads a ship file: of that one, and of each other that it reads as well.
+/// `own` is a plan that the planner has already. `turn` says which schedules are asked about: those that go one way, or
+/// all that are feasible.
 #[derive(Clone, Copy)]
 pub struct Inputs<'a> {
     pub ship: &'a str,
@@ -134,7 +134,7 @@ pub(crate) fn input_of(which: Which) -> Input
 impl<'a> MovesAsked<'a> {
     /// The name of the file that holds this bay plan.
     pub fn name_of(&self, which: Which) -> &'a str
-        ensures { Some result.now ≡ name_of (input_of which) (plans_named (moving self.now)) }
+        ensures { Some result.now ≡ name_of (input_of which) (bay_plans_named (moving self.now)) }
     {
         match which {
             Which::Arrival => self.arrival,

@@ -73,7 +73,6 @@ qc dispatch SHIP STOW PLAN LOG
 qc watch SHIP LOG
 qc picture SHIP STOW PLAN
 qc report SHIP STOW PLAN
-qc rest SHIP STOW PLAN LOG NEWSHIP NEWSTOW OWN
 qc moves ARRIVAL DEPARTURE STOW
 qc odds SHIP STOW PLAN PAST [--runs N] [--seed S] [--by T]
 ";

@@ -15,10 +15,15 @@ pub enum Status {
     ReadFault,
     /// A file or the report couldn't be written.
     WriteFault,
+    /// The ship file has a fault.
     BadShip,
+    /// The stowage list has a fault.
     BadStow,
+    /// The tree's file has a fault.
     BadTree,
+    /// A plan's file has a fault.
     BadPlan,
+    /// There was too little memory.
     OutOfMemory,
     /// There is no one-way schedule.
     Infeasible,
@@ -32,12 +37,15 @@ pub enum Status {
     Weaker,
     /// A file has more than 8,388,608 bytes.
     TooLarge,
+    /// The log has a fault.
     BadLog,
     /// Two cranes were too near.
     Breach,
+    /// A bay plan has a fault.
     BadBayPlan,
     /// The rest of a plan can't be planned.
     NoRest,
+    /// The file of past tasks has a fault.
     BadPast,
 }
 

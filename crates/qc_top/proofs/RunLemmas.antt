@@ -22,6 +22,9 @@ use Rattle.qc_model.specs.Instance.{InstanceView}
 use Rattle.qc_moves_command.specs.Account.{IsMovesRun}
 use Rattle.qc_moves_command.specs.Promises.{MovesPromises}
 use Rattle.qc_moves_command.proofs.MovesLemmas.{moves_promises}
+use Rattle.qc_odds_command.specs.Account.{IsForecasting, IsOddsRun, StopsForecast}
+use Rattle.qc_odds_command.specs.Promises.{OddsPromises}
+use Rattle.qc_odds_command.proofs.PromiseLemmas.{odds_promises}
 use Rattle.qc_picture_command.specs.Account.{picture_reader, report_reader}
 use Rattle.qc_picture_command.specs.declared.answer.Printed.{Printed}
 use Rattle.qc_picture_command.specs.declared.answer.Printed.TheVariants as printed
@@ -37,7 +40,7 @@ use Rattle.qc_run.specs.declared.status.Status.{Status}
 use Rattle.qc_run.specs.declared.status.Status.TheVariants as status
 use Rattle.qc_run.specs.Account as account
 use Rattle.qc_run.specs.Account.{IsFound, IsReaderRun, IsReading}
-use Rattle.qc_run.specs.Inputs.{Moving, Names, Planning}
+use Rattle.qc_run.specs.Inputs.{Moving, Names, Planning, Simulating}
 use Rattle.qc_run.specs.Reports.{Printing, Prints, PrintsPart, Reports}
 use Rattle.qc_run.specs.Steps.{Stops}
 use Rattle.qc_run.specs.Texts.{stop_status, stop_text}
@@ -56,7 +59,7 @@ use Rattle.qc_log_commands.specs.declared.watching.Watching.TheVariants as watch
 use Rattle.qc_log_commands.specs.WatchAccount.{watch_reader}
 use Rattle.qc_log_commands.specs.WatchTexts.{watching_status}
 use Rattle.qc_words.proofs.LimitLemmas.{asked_kept}
-use Rattle.qc_words.specs.Asked.{Asked, KeepsLimits, are_different, is_same, read, plan, list, make, help, version, usage}
+use Rattle.qc_words.specs.Asked.{Asked, KeepsLimits, are_different, is_same, read, plan, moves, simulate, make, help, version, usage}
 use Rattle.qc_words.specs.declared.asked.Reader.{Reader}
 use Rattle.qc_words.specs.declared.asked.Reader.TheVariants as reader
 use Rattle.qc_words.specs.Words.{Asks}
@@ -78,6 +81,13 @@ module _ (v pb pa : View) (ended : Status)
 
   as_list : (m : Moving) → IsMovesRun m v v pb pa ended
   as_list m = record { answer = Err stop.OutOfMemory; serves = (refl, tt, refl, refl, refl); reports = reports }
+
+  as_odds : (s : Simulating) → IsOddsRun s v v pb pa ended
+  as_odds s = record {
+    answer = Err stop.OutOfMemory;
+    serves = stopped (IsForecasting s v.files) (StopsForecast s.inputs v v) s.inputs v (inl refl);
+    reports = reports;
+  }
 
   as_reader : {X A : Type 0} (of : account.Reader X A) (names : Names) → IsReaderRun of names v v pb pa ended
   as_reader of names = record {
@@ -223,10 +233,15 @@ module _ (words : List (List ℕ)) (before after pb pa : View) (ended : Status) 
       plan_promises asked before after pb pa ended
       (served (λ v. IsPlanRun asked before v pb pa ended) (λ reports. as_plan before pb pa ended reports asked) (serves (plan asked) asks))
 
-  lists_moves : (asked : Moving) → Asks words (list asked) → MovesPromises asked before after pb pa ended
+  lists_moves : (asked : Moving) → Asks words (moves asked) → MovesPromises asked before after pb pa ended
   lists_moves asked asks =
       moves_promises asked before after pb pa ended
-      (served (λ v. IsMovesRun asked before v pb pa ended) (λ reports. as_list before pb pa ended reports asked) (serves (list asked) asks))
+      (served (λ v. IsMovesRun asked before v pb pa ended) (λ reports. as_list before pb pa ended reports asked) (serves (moves asked) asks))
+
+  simulates : (asked : Simulating) → Asks words (simulate asked) → OddsPromises asked before after pb pa ended
+  simulates asked asks =
+      odds_promises asked before after pb pa ended
+      (served (λ v. IsOddsRun asked before v pb pa ended) (λ reports. as_odds before pb pa ended reports asked) (serves (simulate asked) asks))
 
   own_stays : (asked : Planning) → Asks words (plan asked)
       → IfSome asked.inputs.own (λ own. IfSome before.files (λ held. IfSome after.files (λ now. get now own ≡ get held own)))
@@ -327,9 +342,10 @@ module _ (words : List (List ℕ)) (before after pb pa : View) (ended : Status) 
   whatever (plan asked) asks =
       let p = plans asked asks in
       record { stays = λ never. absurd (never tt); usage_words = λ e. absurd (p.no_usage e); memory = p.out_of_memory }
-  whatever (list asked) asks =
+  whatever (moves asked) asks =
       let p = lists_moves asked asks in
       record { stays = λ never. absurd (never tt); usage_words = λ e. absurd (p.no_usage e); memory = p.out_of_memory }
+  whatever (simulate asked) asks = by_reads (simulate asked) (simulates asked asks).reads
   whatever (read command names) asks = by_command command names (read command names) (reads command names asks)
   whatever (make n k c) asks = record {
     stays = λ never. ap (λ (v : View). v.files) (make_leaves n k c asks);
@@ -345,6 +361,7 @@ module _ (words : List (List ℕ)) (before after pb pa : View) (ended : Status) 
   promises = record {
     plans = plans;
     lists_moves = lists_moves;
+    simulates = simulates;
     own_stays = own_stays;
     checks_tree = λ names asks. tree_promises names before after pb pa ended (reads reader.CheckTree names asks);
     checks_plan = λ names asks. plan_check_promises names before after pb pa ended (reads reader.Check names asks);

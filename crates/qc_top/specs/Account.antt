@@ -4,6 +4,7 @@ use Rattle.qc_io.specs.Outside.{View}
 use Rattle.qc_log_commands.specs.DispatchAccount.{IsDispatchRun}
 use Rattle.qc_judge_commands.specs.Account.{IsPlanCheckRun, IsTreeRun, show_reader, tasks_reader}
 use Rattle.qc_moves_command.specs.Account.{IsMovesRun}
+use Rattle.qc_odds_command.specs.Account.{IsOddsRun}
 use Rattle.qc_picture_command.specs.Account.{picture_reader, report_reader}
 use Rattle.qc_plan_command.specs.Account.{IsPlanRun}
 use Rattle.qc_run.specs.declared.refusal.Refusal.TheVariants as refusal
@@ -18,7 +19,7 @@ use Rattle.qc_run.specs.Texts.{stop_status, stop_text}
 use Rattle.qc_sheet_command.specs.Account.{sheet_reader}
 use Rattle.qc_trial.specs.Account.{IsTrialRun}
 use Rattle.qc_log_commands.specs.WatchAccount.{watch_reader}
-use Rattle.qc_words.specs.Asked.{Asked, read, plan, list, make, help, version, usage}
+use Rattle.qc_words.specs.Asked.{Asked, read, plan, moves, simulate, make, help, version, usage}
 use Rattle.qc_words.specs.declared.asked.Reader.{Reader}
 use Rattle.qc_words.specs.declared.asked.Reader.TheVariants as reader
 use Rattle.qc_words.specs.Commands.{named}
@@ -65,7 +66,8 @@ IsReadBy reader.Report = IsReaderRun report_reader
 abbrev pub IsRunOf : Asked → (before after out_before out_after : View) → Status → Type 0
 IsRunOf (read reader names) = IsReadBy reader names
 IsRunOf (plan asked) = IsPlanRun asked
-IsRunOf (list asked) = IsMovesRun asked
+IsRunOf (moves asked) = IsMovesRun asked
+IsRunOf (simulate asked) = IsOddsRun asked
 IsRunOf (make n h c) = IsMakeRun n h c
 IsRunOf (help of) = IsAbout
 IsRunOf version = IsAbout

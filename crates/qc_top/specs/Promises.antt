@@ -5,15 +5,16 @@ use Rattle.std.specs.FinMap.{get}
 use Rattle.qc_io.specs.Outside.{View}
 use Rattle.qc_judge_commands.specs.Promises.{PlanCheckPromises, TreePromises}
 use Rattle.qc_moves_command.specs.Promises.{MovesPromises}
+use Rattle.qc_odds_command.specs.Promises.{OddsPromises}
 use Rattle.qc_plan_command.specs.Promises.{PlanPromises}
 use Rattle.qc_run.specs.declared.refusal.Stop.TheVariants as stop
 use Rattle.qc_run.specs.declared.status.Status.{Status}
 use Rattle.qc_run.specs.declared.status.Status.TheVariants as status
-use Rattle.qc_run.specs.Inputs.{Moving, Names, Planning}
+use Rattle.qc_run.specs.Inputs.{Moving, Names, Planning, Simulating}
 use Rattle.qc_run.specs.Reports.{Prints}
 use Rattle.qc_run.specs.Told.{EndsWith}
 use Rattle.qc_trial.specs.Account.{TrialPromises}
-use Rattle.qc_words.specs.Asked.{Asked, read, plan, list, make, help, version, usage}
+use Rattle.qc_words.specs.Asked.{Asked, read, plan, moves, simulate, make, help, version, usage}
 use Rattle.qc_words.specs.declared.asked.Reader.TheVariants as reader
 use Rattle.qc_words.specs.Commands.{named}
 use Rattle.qc_words.specs.Words.{Asks, about}
@@ -23,7 +24,7 @@ use Rattle.qc_words.specs.declared.commands.CommandName.{CommandName}
 -- a command that writes files is asked for
 abbrev pub IsWriting : Asked → Type 0
 IsWriting (plan asked) = Unit {0}
-IsWriting (list asked) = Unit {0}
+IsWriting (moves asked) = Unit {0}
 IsWriting _ = ⊥
 
 pub record Promises (words : List (List ℕ)) (before after out_before out_after : View) (ended : Status) : Type 0 where
@@ -31,8 +32,11 @@ pub record Promises (words : List (List ℕ)) (before after out_before out_after
   pub plans : (asked : Planning) → Asks words (plan asked)
       → PlanPromises asked before after out_before out_after ended
   -- a list of the moves between two bay plans
-  pub lists_moves : (asked : Moving) → Asks words (list asked)
+  pub lists_moves : (asked : Moving) → Asks words (moves asked)
       → MovesPromises asked before after out_before out_after ended
+  -- the odds of a plan by what tasks of past calls took
+  pub simulates : (asked : Simulating) → Asks words (simulate asked)
+      → OddsPromises asked before after out_before out_after ended
   -- a check of schedules that go one way, and one of all that are feasible
   pub checks_tree : (names : Names) → Asks words (read reader.CheckTree names)
       → TreePromises names before after out_before out_after ended

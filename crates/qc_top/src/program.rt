@@ -12,6 +12,7 @@ use qc_judge_commands::{check_plan, check_tree, list_tasks, show};
 use qc_log_commands::{dispatch, watch};
 use qc_moves_command::list_moves;
 use qc_num::OutOfMemory;
+use qc_odds_command::odds;
 use qc_picture_command::{Print, print_plan};
 use qc_plan_command::plan;
 use qc_run::{Ended, Inputs, Refusal, Status, Stop, report_stop, report_text};
@@ -64,6 +65,7 @@ fn serve<S: Shelf, K: Sink>(
         Request::Reads(reader, inputs) => read(alloc, reader, &inputs, shelf, out),
         Request::Plans(asked) => plan(alloc, &asked, shelf, out),
         Request::Moves(asked) => list_moves(alloc, &asked, shelf, out),
+        Request::Odds(asked) => odds(alloc, &asked, shelf, out),
         Request::Make {
             number,
             hatches,

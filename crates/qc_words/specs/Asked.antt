@@ -1,10 +1,9 @@
 -- public: what a command line asks for, with the names of its files.
-use Rattle.std.specs.Prelude.{ℕ, ◌<◌, ◌≤◌, ◌^◌, Bool, true, false, not, ◌&&◌, IfSome, IsSome, IsTrue, List, [], ◌∷◌, Option, Some, map, option_map}
-use Rattle.std.specs.Borrow.{Bor}
+use Rattle.std.specs.Prelude.{ℕ, ◌<◌, ◌≤◌, ◌^◌, Bool, true, false, not, ◌&&◌, IfSome, IsSome, IsTrue, List, [], ◌∷◌, Option, Some}
 use Rattle.std.specs.List.{list_any}
 use Rattle.std.specs.Str.{bytes_eq}
 use Rattle.qc_model.specs.Numbers.{most_branchings, most_cranes, most_hatches}
-use Rattle.qc_run.specs.Inputs.{Moving, Names, Planning, Replanning, Simulating, moving, names_of, planning, replanning, simulating}
+use Rattle.qc_run.specs.Inputs.{Moving, Names, Planning, Simulating, moving, names_of, planning, simulating}
 use Rattle.qc_words.specs.declared.asked.Reader.{Reader}
 use Rattle.qc_words.specs.declared.asked.Reader.TheVariants as reader
 use Rattle.qc_words.specs.declared.asked.Request.{Request}
@@ -33,11 +32,9 @@ pub data Asked : Type 0 where
   -- a plan and its tree, beside the planner's own plan where one is named
   plan : Planning → Asked
   -- a list of the moves between two bay plans
-  list : Moving → Asked
+  moves : Moving → Asked
   -- the odds of a plan by what tasks of past calls took
   simulate : Simulating → Asked
-  -- the files of what is left of a plan in the middle of its work
-  replan : Replanning → Asked
   -- a ship and a list made from a number, planned and checked
   make : (number hatches cranes : ℕ) → Asked
   -- what the program does and its commands, or one command
@@ -51,9 +48,8 @@ pub data Asked : Type 0 where
 abbrev pub asked_for : Request → Asked
 asked_for (request.Reads reader files) = read reader (names_of files)
 asked_for (request.Plans asked) = plan (planning asked)
-asked_for (request.Moves asked) = list (moving asked)
+asked_for (request.Moves asked) = moves (moving asked)
 asked_for (request.Odds asked) = simulate (simulating asked)
-asked_for (request.Rest asked) = replan (replanning asked)
 asked_for (request.Make number hatches cranes) = make number hatches cranes
 asked_for (request.Help of) = help of
 asked_for request.Version = version
@@ -69,10 +65,6 @@ abbrev pub are_different : List (Option (List ℕ)) → Bool
 are_different [] = true
 are_different (name ∷ names) = not (list_any (is_same name) names) && are_different names
 
--- the names, as texts
-abbrev pub texts_of : List (Option (Bor (List ℕ))) → List (Option (List ℕ))
-texts_of = map (option_map (λ name. name.now))
-
 -- the names that a plan is given: of the files that it reads, and of those that it writes
 abbrev pub given : Planning → List (Option (List ℕ))
 given asked =
@@ -81,12 +73,6 @@ given asked =
 -- and those that a list of moves is given
 abbrev pub listing : Moving → List (Option (List ℕ))
 listing asked = Some asked.arrival ∷ Some asked.departure ∷ Some asked.stow ∷ []
-
--- and those that the rest of a plan is given
-abbrev pub renewing : Replanning → List (Option (List ℕ))
-renewing asked =
-    asked.inputs.ship ∷ asked.inputs.stow ∷ asked.inputs.plan ∷ asked.inputs.log
-    ∷ Some asked.new_ship ∷ Some asked.new_stow ∷ Some asked.own ∷ []
 
 -- the files that the command reads are named
 abbrev pub AreNamed : Reader → Names → Type 0
@@ -102,12 +88,10 @@ abbrev pub KeepsLimits : Asked → Type 0
 KeepsLimits (read reader names) = AreNamed reader names
 KeepsLimits (plan asked) =
     IsSome asked.inputs.stow × IsTrue (are_different (given asked)) × (asked.nodes ≤ most_branchings)
-KeepsLimits (list asked) = IsTrue (are_different (listing asked))
+KeepsLimits (moves asked) = IsTrue (are_different (listing asked))
 KeepsLimits (simulate asked) =
     IsSome asked.inputs.stow × IsSome asked.inputs.plan × IsSome asked.inputs.past
     × (1 ≤ asked.runs) × (asked.runs ≤ most_runs) × (asked.seed ≤ most_seed) × IfSome asked.by_tick (λ tick. tick < 10 ^ tick_digits)
-KeepsLimits (replan asked) =
-    IsSome asked.inputs.stow × IsSome asked.inputs.plan × IsSome asked.inputs.log × IsTrue (are_different (renewing asked))
 KeepsLimits (make number hatches cranes) =
     (number ≤ most_number) × (1 ≤ hatches) × (hatches ≤ most_hatches)
     × (1 ≤ cranes) × (cranes ≤ most_cranes)

@@ -24,8 +24,7 @@ command_name word =
     else (if bytes_eq word (codes "report") then Some name.Report
     else (if bytes_eq word (codes "moves") then Some name.Moves
     else (if bytes_eq word (codes "odds") then Some name.Odds
-    else (if bytes_eq word (codes "rest") then Some name.Rest
-    else None))))))))))))))
+    else None)))))))))))))
 
 -- and that of a command line
 abbrev pub named : List (List ℕ) → Option CommandName
@@ -82,9 +81,6 @@ command_of name.Report = command_with (codes "report") (codes "ship" ∷ codes "
 command_of name.Moves =
     command_with (codes "moves") (codes "arrival" ∷ codes "departure" ∷ codes "stow" ∷ [])
 command_of name.Odds = odds_command
-command_of name.Rest =
-    command_with (codes "rest")
-    (codes "ship" ∷ codes "stow" ∷ codes "plan" ∷ codes "log" ∷ codes "newship" ∷ codes "newstow" ∷ codes "own" ∷ [])
 
 -- what the command reads from the words, or nothing where it refuses them
 abbrev pub read_by : App → List (List ℕ) → Option (List Row)

@@ -8,8 +8,8 @@ use Rattle.qc_model.specs.Numbers.{most_branchings, most_cranes, most_hatches}
 use Rattle.qc_model.specs.declared.turn.Turn.{Turn}
 use Rattle.qc_model.specs.declared.turn.Turn.TheVariants.{OneWay, Free}
 use Rattle.qc_num.specs.Digits.{number_in}
-use Rattle.qc_run.specs.Inputs.{Moving, Names, Planning, Replanning, Simulating, no_names}
-use Rattle.qc_words.specs.Asked.{Asked, read, plan, list, simulate, replan, make, help, version, usage, are_different, given, listing, renewing, most_number, most_runs, most_seed, tick_digits}
+use Rattle.qc_run.specs.Inputs.{Moving, Names, Planning, Simulating, no_names}
+use Rattle.qc_words.specs.Asked.{Asked, read, plan, moves, simulate, make, help, version, usage, are_different, given, listing, most_number, most_runs, most_seed, tick_digits}
 use Rattle.qc_words.specs.declared.asked.Reader.TheVariants as reader
 use Rattle.qc_words.specs.Commands.{command_of, named, read_by, command_name}
 use Rattle.qc_words.specs.declared.commands.CommandName.{CommandName}
@@ -137,7 +137,7 @@ plan_in turn rows = option_map_or
 
 -- a list of moves, where its names are different
 abbrev pub moves_of : Moving → Asked
-moves_of asked = if are_different (listing asked) then list asked else usage
+moves_of asked = if are_different (listing asked) then moves asked else usage
 
 abbrev pub moves_in : List Row → Asked
 moves_in rows = moves_of (record {
@@ -155,18 +155,6 @@ odds_of _ _ _ _ = usage
 abbrev pub odds_in : List Row → Asked
 odds_in rows = odds_of (weighed rows) (runs_in (first_of (codes "runs") rows)) (seed_in (first_of (codes "seed") rows))
     (by_in (first_of (codes "by") rows))
-
--- the rest of a plan, where its names are different
-abbrev pub rest_of : Replanning → Asked
-rest_of asked = if are_different (renewing asked) then replan asked else usage
-
-abbrev pub rest_in : List Row → Asked
-rest_in rows = rest_of (record {
-  inputs = followed rows;
-  new_ship = value_of (codes "newship") rows;
-  new_stow = value_of (codes "newstow") rows;
-  own = value_of (codes "own") rows;
-})
 
 -- what a command asks for by the values that were read
 abbrev pub asked_in : CommandName → List Row → Asked
@@ -187,7 +175,6 @@ asked_in name.Picture rows = read reader.Picture (planned rows)
 asked_in name.Report rows = read reader.Report (planned rows)
 asked_in name.Moves rows = moves_in rows
 asked_in name.Odds rows = odds_in rows
-asked_in name.Rest rows = rest_in rows
 
 -- what words ask of a command: Usage where no command begins them, where `clap` refuses them, where a
 -- number isn't one in plain decimal and in range, and where the names of a command that writes aren't different

@@ -25,7 +25,6 @@ pub enum CommandName {
     Report,
     Moves,
     Odds,
-    Rest,
 }
 
 /// The command with this name.
@@ -47,7 +46,6 @@ pub(crate) fn command_name(word: &str) -> Option<CommandName>
         "report" => Some(CommandName::Report),
         "moves" => Some(CommandName::Moves),
         "odds" => Some(CommandName::Odds),
-        "rest" => Some(CommandName::Rest),
         _ => None,
     }
 }
@@ -136,10 +134,5 @@ pub fn command_of<'a>(alloc: Global, name: CommandName) -> Result<Command<'a>, A
         CommandName::Report => command_with(alloc, "report", &["ship", "stow", "plan"]),
         CommandName::Moves => command_with(alloc, "moves", &["arrival", "departure", "stow"]),
         CommandName::Odds => odds_command(alloc),
-        CommandName::Rest => command_with(
-            alloc,
-            "rest",
-            &["ship", "stow", "plan", "log", "newship", "newstow", "own"],
-        ),
     }
 }

@@ -29,8 +29,6 @@ qc picture SHIP STOW PLAN
     a drawing of a plan in time and place, as an SVG
 qc report SHIP STOW PLAN
     the figures of each crane of a plan, as a CSV
-qc rest SHIP STOW PLAN LOG NEWSHIP NEWSTOW OWN
-    writes the ship file, list and plan of what is left in the middle of the work
 qc moves ARRIVAL DEPARTURE STOW
     writes the list of moves that leads from one bay plan to another
 qc odds SHIP STOW PLAN PAST [--runs N] [--seed S] [--by T]
@@ -157,16 +155,6 @@ Ends with 0.
 Faults end with 2 to 4, 9, 15 and 19, and are told by their kind and place: man 5 qc.
 ";
 
-const REST: &[u8] = b"qc rest SHIP STOW PLAN LOG NEWSHIP NEWSTOW OWN
-
-Follows a plan by a log as dispatch does, and writes what is left of it from the last tick on: a
-ship file, a list, and a plan by which the old order goes on. plan or free with NEWSHIP, NEWSTOW and
---from OWN plans it anew.
-Ends with 0, 13 Broken, or 20 NoRest: a task that runs needs no tick more, or a crane would be ready
-too late, or stand where none may.
-Faults end with 2 to 6, 8, 9, 15 and 17, and are told by their kind and place: man 5 qc.
-";
-
 const ODDS: &[u8] = b"qc odds SHIP STOW PLAN PAST [--runs N] [--seed S] [--by T]
 
 Works a plan many times, each time with lengths drawn from those that tasks of one past call took,
@@ -178,7 +166,7 @@ Ends with 0, or 13 Broken.
 Faults end with 2 to 6, 8, 9, 15 and 21, and are told by their kind and place: man 5 qc.
 ";
 
-const VERSION: &[u8] = b"qc 0.4.0
+const VERSION: &[u8] = b"qc 0.3.0
 proved with rattle-kit-13f logic dac8208d650f15bf
 ";
 
@@ -201,7 +189,6 @@ fn command_help(of: CommandName) -> &'static [u8]
         CommandName::Report => REPORT,
         CommandName::Moves => MOVES,
         CommandName::Odds => ODDS,
-        CommandName::Rest => REST,
     }
 }
 

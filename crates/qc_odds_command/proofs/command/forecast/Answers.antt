@@ -4,14 +4,14 @@ use Rattle.qc_odds_command.proofs.command.forecast.Goals as goal
 
 pub returns-in-Err-read_past_file-clause-serves : goal.returns-in-Err-read_past_file-clause-serves
 returns-in-Err-read_past_file-clause-serves g c =
-    past_unread {asked = simulating c.args.asked.now} c.in-Ok.ensures.step c.in_default.ensures.feasible c.in-Err-read_past_file.ensures
+    past_unread (simulating c.args.asked.now) c.in-Ok.ensures.step c.in_default.ensures.feasible c.in-Err-read_past_file.ensures
 
 pub returns-in-Ok-simulate-clause-serves : goal.returns-in-Ok-simulate-clause-serves
 returns-in-Ok-simulate-clause-serves g c =
-    forecast_told {asked = simulating c.args.asked.now} c.in-Ok.ensures.step c.in_default.ensures.feasible c.in-Ok-read_past_file.ensures _
-    (tells_forecast {asked = simulating c.args.asked.now} c.in-Ok-simulate.odds c.in-Ok-simulate.ensures.odds c.requires.some c.in_default.ensures.feasible)
+    forecast_told (simulating c.args.asked.now) c.in-Ok.ensures.step c.in_default.ensures.feasible c.in-Ok-read_past_file.ensures _
+    (tells_forecast (simulating c.args.asked.now) c.in-Ok-simulate.odds c.in-Ok-simulate.ensures.odds c.requires.some c.in_default.ensures.feasible)
 
 pub returns-in-Ok-simulate-clause-ready : goal.returns-in-Ok-simulate-clause-ready
 returns-in-Ok-simulate-clause-ready g c =
-    forecast_ready {asked = simulating c.args.asked.now} c.in-Ok-simulate.odds c.in-Ok-simulate.ensures.odds c.requires.some
+    forecast_ready (simulating c.args.asked.now) c.in-Ok-simulate.odds c.in-Ok-simulate.ensures.odds c.requires.some
     c.in-Ok.ensures.judgeable c.in-Ok-simulate.ensures.small c.requires.few
