@@ -7,7 +7,6 @@ use crate::voice::explain;
 use qc_io::{Failed, Shelf, Sink, fault, put_all};
 use qc_page::Page;
 use qc_run::{Ended, Status};
-use qc_words::{Request, request_of};
 use std::io::{self, ErrorKind};
 
 /// Standard error as a sink. It tells no bytes.
@@ -68,20 +67,6 @@ fn say_unwritten(
     say_why(page, why)
 }
 
-/// Says which of the files of what is left of a plan are new, where one of them, or the report, couldn't be written.
-fn say_new(page: &mut Page, words: &[String], is_printing: bool) {
-    let Some(Request::Rest(_)) = page.unless_short(request_of(page.alloc(), words)) else {
-        return;
-    };
-    page.line()
-        .text(if is_printing {
-            "NEWSHIP, NEWSTOW and OWN are new and whole; run it again for the report"
-        } else {
-            "of NEWSHIP, NEWSTOW and OWN, which are written in this order, those ahead of it may be new, and the others are as they were; run it again"
-        })
-        .end()
-}
-
 /// Says what is to be mended after a run with these words that came to this, and what is worth a note. It reads files
 /// again for what they hold, and changes none. `trouble` is the file whose call failed last with what the system said,
 /// `printing` what it said of standard output.
@@ -98,9 +83,7 @@ pub fn say_after<R: Eprint + AllocGlobal, S: Shelf>(
     let mut voice = Voice { rt, faults: 0 };
     let mut page = Page::new(rt.alloc());
     if ended.status == Status::WriteFault {
-        let is_printing = printing.is_some();
         say_unwritten(&mut page, trouble, printing);
-        say_new(&mut page, words, is_printing);
     } else {
         explain(rt.alloc(), words, ended, shelf, &mut voice);
         if ended.status == Status::ReadFault

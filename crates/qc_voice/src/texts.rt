@@ -37,10 +37,6 @@ pub(crate) fn names_of<'a>(request: &Request<'a>) -> Option<Names<'a>> {
             read: asked.inputs,
             written: None,
         }),
-        Request::Rest(asked) => Some(Names {
-            read: asked.inputs,
-            written: None,
-        }),
         Request::Moves(_)
         | Request::Make { .. }
         | Request::Help(_)

@@ -1,22 +1,14 @@
-"""Mistakes in past tasks, in the words of `odds` and `rest`, and where what is left of a plan can't be planned; as in
-table.py."""
+"""Mistakes in past tasks and in the words of `odds`; as in table.py."""
 
 from table import FIRST_PLAN, SEMICOLONS, usage
 
 HEADER = "call,phase,planned,real"
 ODDS = "odds ship.toml stow.csv plan.csv past.csv"
-REST = "rest ship.toml stow.csv plan.csv happened.txt newship.toml newstow.csv own.csv"
 CALL = "a call's name is 1 to 20 letters, digits, - or _"
 PHASE = "the phase is DD, DH, LH, LD, or - for any"
 LENGTH = "planned and real are whole numbers from 1, of at most 9 digits"
 ORDER = "SHIP, STOW, PLAN and PAST stand in this order, and this file was named as"
 MANY = [f"26{n:02},-,100,{100 + n}" for n in range(20)]
-AHEAD = ("qc: of NEWSHIP, NEWSTOW and OWN, which are written in this order, those ahead of it may be new, and the others are as "
-         "they were; run it again")
-
-# Eight cranes two hundred metres apart, of which the first goes to the stern's end of the rail.
-FAR_SHIP = "hatches = [2]\nplaces = [6000]\nclear = 2000\ntravel = 1\ndeck_move = 10\nhold_move = 10\n" + "".join(
-    f'\n[[crane]]\nname = "C{n + 1}"\nbay = {2000 * n}\n' for n in range(8))
 
 
 def table(*records):
@@ -37,16 +29,7 @@ def told(name, record, report, why):
     return past(name, ["2610,-,100,100", record], f"BadPast {report} 3", ["qc: past.csv, line 3, record 3: " + why])
 
 
-def rest(name, log, report, lines, status=20, words=REST, **files):
-    return (name, "first", words, {"happened.txt": log, **files}, status, report, lines)
-
-
-def over(task):
-    return (f"qc: happened.txt: {task} still runs by this log, and its ticks are over: report done {task}, or by left {task} N how "
-            "many ticks it still needs")
-
-
-PAST_AND_REST = [
+PAST_TASKS = [
     # ---- past tasks
     past("no past tasks", None, "ReadFault past",
          ["qc: past.csv: this file, PAST, isn't there or can't be read", "qc: the system said: No such file or directory (os error 2)"],
@@ -106,22 +89,6 @@ PAST_AND_REST = [
     noted("calls without a phase", MANY + [f"27{n},LD,100,100" for n in range(10, 14)],
           [f"call 27{n} has no task of phase DD: others of it stand in" for n in range(10, 13)]),
     noted("a phase that the ship hasn't either", MANY + ["2700,DD,100,100"], []),
-    # ---- what is left of a plan
-    rest("a task that should be over", "tick 25\n", "NoRest Over 2-DD", [over("2-DD")]),
-    rest("a task that should be over by what it needed", "tick 5\nleft 2-DD 9\ntick 9\n", "NoRest Over 2-DD", [over("2-DD")]),
-    rest("a crane that is ready too late", "tick 5\nleft 2-DD 999999999\n", "NoRest Ready C1",
-         ["qc: happened.txt: the task that C1 works takes it more than 1000000 ticks from here on, and a ship file's ready is at most "
-          "1000000: ask again once it needs less, or correct its line left"]),
-    ("a crane off the rail", "first", REST,
-     {"ship.toml": FAR_SHIP, "stow.csv": "id,move,cell,length\nA,D,020082,40\n",
-      "plan.csv": "task,crane,start,end\n2-DD,C1,6000,6010\n", "happened.txt": "tick 6001\n"}, 20, "NoRest Bay C7",
-     ["qc: C7 would have to stand below decimetre -10000 or above 16000 by now, where no ship file can put it: leave cranes without "
-      "a task out of SHIP"]),
-    rest("a task that isn't there, of the rest", "tick 5\ndone 2-LH\n", "BadLog UnknownTask 2",
-         ['qc: happened.txt, line 2: "2-LH" is no task of this ship and list; qc tasks tells their names'], 17),
-    rest("a new ship file in no folder", "tick 5\n", "WriteFault",
-         ["qc: out/ship.toml: this file couldn't be made or written", "qc: the system said: No such file or directory (os error 2)",
-          AHEAD], 4, REST.replace("newship", "out/ship")),
     # ---- the words
     usage("no PAST", "odds ship.toml stow.csv plan.csv",
           ["qc: odds needs PAST too; the words are", "qc:     qc odds SHIP STOW PLAN PAST [--runs N] [--seed S] [--by T]"]),
@@ -146,11 +113,4 @@ PAST_AND_REST = [
     usage("an option of odds for plan", "plan ship.toml stow.csv new.csv newtree.txt --runs 5",
           ['qc: plan has no option "--runs"; it has --nodes N and --from OWN, and a file of that name is written ./--runs']),
     usage("odds misspelt", "ods ship.toml stow.csv plan.csv past.csv", ['qc: "ods" is no command; the nearest is odds']),
-    usage("rest misspelt", "rests ship.toml stow.csv", ['qc: "rests" is no command; the nearest is rest']),
-    usage("no OWN", REST.rsplit(" ", 1)[0],
-          ["qc: rest needs OWN too; the words are", "qc:     qc rest SHIP STOW PLAN LOG NEWSHIP NEWSTOW OWN"]),
-    usage("the new list over the list", REST.replace("newstow", "stow"),
-          ['qc: STOW and NEWSTOW are the same file "stow.csv": rest needs seven different names']),
-    usage("the old order over the plan", REST.replace("own", "plan"),
-          ['qc: PLAN and OWN are the same file "plan.csv": rest needs seven different names']),
 ]
