@@ -16,7 +16,7 @@ def table(*records):
 
 
 def past(name, change, report, lines, words=ODDS, status=21):
-    change = change if isinstance(change, (str, bytes, tuple)) or change is None else table(*change)
+    change = table(*change) if isinstance(change, list) else change
     return (name, "first", words, {"past.csv": change}, status, report, lines)
 
 
@@ -31,9 +31,8 @@ def told(name, record, report, why):
 
 PAST_TASKS = [
     # ---- past tasks
-    past("no past tasks", None, "ReadFault past",
-         ["qc: past.csv: this file, PAST, isn't there or can't be read", "qc: the system said: No such file or directory (os error 2)"],
-         status=3),
+    ("no past tasks", "first", ODDS, {}, 3, "ReadFault past",
+     ["qc: past.csv: this file, PAST, isn't there or can't be read", "qc: the system said: No such file or directory (os error 2)"]),
     past("past tasks of a byte too many", b"x" * 8388609, "TooLarge past",
          ["qc: past.csv: this file, PAST, has more than 8388608 bytes, and may have no more"], status=15),
     past("an empty table of past tasks", "", "BadPast Header 1",
