@@ -1,5 +1,5 @@
 # Completion of qc for bash: its commands as qc --help lists them, the names of files, -q ahead of a command, and
-# --nodes and --from of plan and free.
+# --nodes and --from of plan and free and --runs, --seed and --by of odds.
 
 _qc() {
     local word=${COMP_WORDS[COMP_CWORD]} before=${COMP_WORDS[COMP_CWORD - 1]}
@@ -23,6 +23,15 @@ _qc() {
         plan:--from:* | free:--from:*) ;;
         plan:--nodes:= | plan:--nodes:* | free:--nodes:= | free:--nodes:*)
             mapfile -t COMPREPLY < <(compgen -W '0 1000 20000 100000' -- "${word#=}")
+            return
+            ;;
+        odds:--seed:* | odds:--by:*) return ;;
+        odds:--runs:*)
+            mapfile -t COMPREPLY < <(compgen -W '100 1000 10000' -- "${word#=}")
+            return
+            ;;
+        odds:*:-*)
+            mapfile -t COMPREPLY < <(compgen -W '--runs --seed --by --help' -- "$word")
             return
             ;;
         plan:*:-* | free:*:-*)

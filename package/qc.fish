@@ -1,5 +1,5 @@
 # Completion of qc for fish: its commands as qc --help lists them, the names of files, -q ahead of a command, and
-# --nodes and --from of plan and free.
+# --nodes and --from of plan and free and --runs, --seed and --by of odds.
 
 # The words behind qc and -q, without the one that is typed.
 function __qc_words
@@ -36,3 +36,6 @@ complete -c qc -f -l help -d 'what the program or a command does'
 complete -c qc -n '__qc_is make' -f
 complete -c qc -n '__qc_is plan; or __qc_is free' -l nodes -x -a '0 1000 20000 100000' -d 'at most so many branchings'
 complete -c qc -n '__qc_is plan; or __qc_is free' -l from -r -F -d 'a plan to begin with'
+complete -c qc -n '__qc_is odds' -l runs -x -a '100 1000 10000' -d 'so many runs'
+complete -c qc -n '__qc_is odds' -l seed -x -d 'what the draws begin with'
+complete -c qc -n '__qc_is odds' -l by -x -d 'tells the chance of this tick too'

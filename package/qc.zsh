@@ -1,6 +1,6 @@
 #compdef qc
 # Completion of qc for zsh: its commands as qc --help lists them, the names of files, -q ahead of a command, and
-# --nodes and --from of plan and free.
+# --nodes and --from of plan and free and --runs, --seed and --by of odds.
 
 _qc() {
     local first=2
@@ -20,6 +20,10 @@ _qc() {
         plan|free)
             _arguments '--nodes=[at most so many branchings]:N:(0 1000 20000 100000)' \
                 '--from=[a plan to begin with]:OWN:_files' '--help[what the command does]' '*:file:_files'
+            ;;
+        odds)
+            _arguments '--runs=[so many runs]:N:(100 1000 10000)' '--seed=[what the draws begin with]:S:' \
+                '--by=[tells the chance of this tick too]:T:' '--help[what the command does]' '*:file:_files'
             ;;
         make) _arguments '--help[what the command does]' ;;
         *) _arguments '--help[what the command does]' '*:file:_files' ;;

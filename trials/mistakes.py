@@ -3,8 +3,8 @@
 
     trials/mistakes.py [NAME ..] [--program FILE]
 
-The mistakes are those of trials/mistakes/table.py, and of bay_plans.py beside it: the files of an example with one change each. Each is made and run in
-a folder of its own. The exit status, the first line of the report and all lines on standard error must be those of the
+The mistakes are those of trials/mistakes/table.py, and of bay_plans.py and past_tasks.py beside it: the files of an
+example with one change each. Each is made and run in a folder of its own. The exit status, the first line of the report and all lines on standard error must be those of the
 table, and every file but those that `plan` writes as it was. Each is run again with -q as the first word: the report must
 be the same to the byte, and nothing may come on standard error. With NAME only the mistakes of those names are tried. It
 ends with 1 where anything differs. Which program FILE is, tried.py says.
@@ -21,11 +21,12 @@ ROOT = Path(__file__).resolve().parent.parent
 sys.path.append(str(ROOT / "trials/mistakes"))
 
 from bay_plans import BAY_PLANS
+from past_tasks import PAST_TASKS
 from table import BASES, MISTAKES as OTHERS
 from tried import add_program, program_of
 
 
-MISTAKES = OTHERS + BAY_PLANS
+MISTAKES = OTHERS + BAY_PLANS + PAST_TASKS
 
 
 def begun(base):

@@ -5,7 +5,7 @@ use qc_page::nearest;
 use std::alloc::Global;
 
 /// The names of the commands.
-const NAMES: [&str; 13] = [
+const NAMES: [&str; 14] = [
     "plan",
     "check",
     "tasks",
@@ -19,10 +19,11 @@ const NAMES: [&str; 13] = [
     "picture",
     "report",
     "moves",
+    "odds",
 ];
 
 /// The commands, each with its operands and with its options in brackets.
-const LINES: [&str; 13] = [
+const LINES: [&str; 14] = [
     "plan SHIP STOW PLAN TREE [--nodes N] [--from OWN]",
     "check SHIP STOW PLAN TREE",
     "tasks SHIP STOW",
@@ -36,7 +37,17 @@ const LINES: [&str; 13] = [
     "picture SHIP STOW PLAN",
     "report SHIP STOW PLAN",
     "moves ARRIVAL DEPARTURE STOW",
+    "odds SHIP STOW PLAN PAST [--runs N] [--seed S] [--by T]",
 ];
+
+/// The options of `plan` and `free`.
+const SEARCH_OPTIONS: [&str; 2] = ["--nodes", "--from"];
+
+/// The options of `odds`.
+const ODDS_OPTIONS: [&str; 3] = ["--runs", "--seed", "--by"];
+
+/// The commands that write files, of which no two names may be equal.
+const WRITERS: [&str; 3] = ["plan", "free", "moves"];
 
 /// A command with its words.
 #[derive(Clone, Copy)]
@@ -81,6 +92,39 @@ impl Form {
     /// Whether it has options.
     pub(crate) fn has_options(&self) -> bool {
         self.line.ends_with(']')
+    }
+
+    /// The names of its options.
+    pub(crate) fn options(&self) -> &'static [&'static str] {
+        if self.name == "odds" {
+            &ODDS_OPTIONS
+        } else if self.has_options() {
+            &SEARCH_OPTIONS
+        } else {
+            &[]
+        }
+    }
+
+    /// Its options, of which it has some, with their values.
+    pub(crate) fn told_options(&self) -> &'static str {
+        if self.name == "odds" {
+            "--runs N, --seed S and --by T"
+        } else {
+            "--nodes N and --from OWN"
+        }
+    }
+
+    /// Whether no two of its names may be equal.
+    pub(crate) fn needs_different_names(&self) -> bool {
+        WRITERS.contains(&self.name)
+    }
+
+    /// How many names it takes, in words, where no two of them may be equal.
+    pub(crate) fn told_count(&self) -> &'static str {
+        match self.count() {
+            3 => "three",
+            _ => "four",
+        }
     }
 
     /// How many operands it has.

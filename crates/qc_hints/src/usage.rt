@@ -1,7 +1,7 @@
 //! Words that are no command.
 
 use crate::forms::{Form, form_of, near_command};
-use crate::sorted::{OPTIONS, Sorted, told_apart};
+use crate::sorted::{Sorted, told_apart};
 use qc_num::{OutOfMemory, plain_number};
 use qc_page::{Page, nearest};
 use std::alloc::Global;
@@ -9,16 +9,19 @@ use std::alloc::Global;
 /// How many operands of a command that plans are read: SHIP and STOW, which stand first.
 const INPUTS: usize = 2;
 
+/// How many digits a number among the words has at most.
+const DIGITS: usize = 12;
+
 /// Whether a value is a number that may stand there, in plain decimal.
-fn is_between(value: &str, least: u32, most: u32) -> bool {
-    match plain_number(value.as_bytes(), 10) {
-        Some(number) => u64::from(least) <= number && number <= u64::from(most),
+fn is_between(value: &str, least: u64, most: u64) -> bool {
+    match plain_number(value.as_bytes(), DIGITS) {
+        Some(number) => least <= number && number <= most,
         None => false,
     }
 }
 
 /// Says that a word isn't a number that may stand there, and answers whether it is none.
-fn say_number(page: &mut Page, name: &str, value: &str, least: u32, most: u32) -> bool {
+fn say_number(page: &mut Page, name: &str, value: &str, least: u64, most: u64) -> bool {
     if is_between(value, least, most) {
         return false;
     }
@@ -27,9 +30,9 @@ fn say_number(page: &mut Page, name: &str, value: &str, least: u32, most: u32) -
         .text(" can't be \"")
         .word(value)
         .text("\": it is a whole number from ")
-        .count(u64::from(least))
+        .count(least)
         .text(" to ")
-        .count(u64::from(most))
+        .count(most)
         .text(", in digits alone and without a leading 0")
         .end();
     true
@@ -47,7 +50,7 @@ fn say_equal(page: &mut Page, form: &Form, sorted: &Sorted<'_>) {
 /// Says which name is that of an operand too, and answers whether one is.
 fn say_if_equal(page: &mut Page, form: &Form, sorted: &Sorted<'_>, at: usize, name: &str) -> bool {
     let this = form.operand(at);
-    if let Some(from) = sorted.from
+    if let Some(from) = sorted.value_of("--from")
         && from == name
     {
         say_from(page, this, at < INPUTS, name);
@@ -70,11 +73,7 @@ fn say_same(page: &mut Page, form: &Form, this: &str, other: &str, name: &str) {
         .text("\": ")
         .text(form.name)
         .text(" needs ")
-        .text(if form.name == "moves" {
-            "three"
-        } else {
-            "four"
-        })
+        .text(form.told_count())
         .text(" different names")
         .end()
 }
@@ -108,12 +107,49 @@ fn equal_behind(sorted: &Sorted<'_>, at: usize, name: &str) -> Option<usize> {
 }
 
 /// The name of a number of `make` by its place, from 0, and the least and the most that it may be.
-fn limits_of(at: usize) -> (&'static str, u32, u32) {
+fn limits_of(at: usize) -> (&'static str, u64, u64) {
     match at {
         0 => ("NUMBER", 0, 2_147_483_647),
         1 => ("HATCHES", 1, 60),
         _ => ("CRANES", 1, 8),
     }
+}
+
+/// What the number behind an option is called, and the least and the most that it may be; none where a name stands
+/// there.
+fn limits_behind(option: &str) -> Option<(&'static str, u64, u64)> {
+    if option == "--nodes" {
+        Some(("N behind --nodes", 0, 100_000))
+    } else if option == "--runs" {
+        Some(("N behind --runs", 1, 10_000))
+    } else if option == "--seed" {
+        Some(("S behind --seed", 0, 2_147_483_647))
+    } else if option == "--by" {
+        Some(("T behind --by", 0, 999_999_999_999))
+    } else {
+        None
+    }
+}
+
+/// Says that the number behind an option is out of range, and answers whether it is.
+fn say_if_out(page: &mut Page, sorted: &Sorted<'_>, option: &str) -> bool {
+    let Some(value) = sorted.value_of(option) else {
+        return false;
+    };
+    match limits_behind(option) {
+        Some((name, least, most)) => say_number(page, name, value, least, most),
+        None => false,
+    }
+}
+
+/// Says which number behind an option is out of range, and answers whether one is.
+fn say_out(page: &mut Page, form: &Form, sorted: &Sorted<'_>) -> bool {
+    for option in form.options() {
+        if say_if_out(page, sorted, option) {
+            return true;
+        }
+    }
+    false
 }
 
 /// Says which number of `make` is out of range.
@@ -173,11 +209,7 @@ fn near_option(
     form: &Form,
     word: &str,
 ) -> Result<Option<&'static str>, OutOfMemory> {
-    if form.has_options() {
-        nearest(alloc, word, &OPTIONS)
-    } else {
-        Ok(None)
-    }
+    nearest(alloc, word, form.options())
 }
 
 /// Says that a command hasn't this option, and which it has.
@@ -194,7 +226,9 @@ fn say_no_option(page: &mut Page, form: &Form, word: &str) {
         return page.text("the nearest is ").text(near).end();
     }
     if form.has_options() {
-        page.text("it has --nodes N and --from OWN, and ");
+        page.text("it has ")
+            .text(form.told_options())
+            .text(", and ");
     }
     page.text("a file of that name is written ./")
         .word(word)
@@ -260,7 +294,7 @@ fn end_with_words(page: &mut Page, form: &Form) {
 
 /// Says what is wrong with the words behind a command's name.
 fn say_behind(page: &mut Page, form: &Form, words: &[String]) {
-    let sorted = told_apart(page.alloc(), form.has_options(), words);
+    let sorted = told_apart(page.alloc(), form.options(), words);
     let Some(sorted) = page.unless_short(sorted) else {
         return;
     };
@@ -276,18 +310,9 @@ fn say_values(page: &mut Page, form: &Form, sorted: &Sorted<'_>) {
     if form.name == "make" {
         return say_made(page, sorted);
     }
-    if form.name == "moves" {
-        return say_equal(page, form, sorted);
+    if !say_out(page, form, sorted) && form.needs_different_names() {
+        say_equal(page, form, sorted)
     }
-    if !form.has_options() {
-        return;
-    }
-    if let Some(nodes) = sorted.nodes
-        && say_number(page, "N behind --nodes", nodes, 0, 100_000)
-    {
-        return;
-    }
-    say_equal(page, form, sorted)
 }
 
 /// Says that no word stands behind one that asks about the program.

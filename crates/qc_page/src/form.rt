@@ -11,6 +11,7 @@ pub enum Sort {
     Stow,
     Plan,
     Tree,
+    Past,
 }
 
 impl Sort {
@@ -20,6 +21,7 @@ impl Sort {
             Sort::Stow => "a stowage list",
             Sort::Plan => "a plan",
             Sort::Tree => "a bound tree",
+            Sort::Past => "a table of past tasks",
         }
     }
 
@@ -29,7 +31,17 @@ impl Sort {
             Sort::Stow => "STOW",
             Sort::Plan => "PLAN",
             Sort::Tree => "TREE",
+            Sort::Past => "PAST",
         }
+    }
+}
+
+/// The order in which files stand where one was taken for the other.
+fn order_of(is: Sort, wanted: Sort) -> &'static str {
+    if is == Sort::Past || wanted == Sort::Past {
+        "SHIP, STOW, PLAN and PAST"
+    } else {
+        "SHIP, STOW, PLAN and TREE"
     }
 }
 
@@ -64,6 +76,8 @@ fn sort_of(bytes: &[u8]) -> Option<Sort> {
         Some(Sort::Stow)
     } else if text.starts_with(b"task,crane,") || text.starts_with(b"task;crane;") {
         Some(Sort::Plan)
+    } else if text.starts_with(b"call,phase,") || text.starts_with(b"call;phase;") {
+        Some(Sort::Past)
     } else if text.starts_with(b"QCTREE") || text.starts_with(b"QCFREE") {
         Some(Sort::Tree)
     } else if has(text, b"[[crane]]") || text.starts_with(b"hatches") {
@@ -100,9 +114,9 @@ fn say_sort(page: &mut Page, file: &str, sort: Sort, wanted: Sort) -> bool {
         .text(is)
         .text(", and ")
         .text(should)
-        .text(
-            " is wanted here: SHIP, STOW, PLAN and TREE stand in this order, and this file was named as ",
-        )
+        .text(" is wanted here: ")
+        .text(order_of(sort, wanted))
+        .text(" stand in this order, and this file was named as ")
         .text(word)
         .end();
     true

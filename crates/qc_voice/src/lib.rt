@@ -4,6 +4,7 @@
 
 mod after;
 mod bay_plans;
+mod odds;
 mod order;
 mod texts;
 mod voice;

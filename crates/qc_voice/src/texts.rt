@@ -5,6 +5,7 @@ use qc_io::{ReadAll, Shelf, read_all};
 use qc_model::Instance;
 use qc_num::{Bytes, OutOfMemory};
 use qc_page::Page;
+use qc_past::{Past, PastError, read_past};
 use qc_run::Inputs;
 use qc_ship::{Ship, ShipError, read_ship};
 use qc_stow::{StowError, read_stow};
@@ -14,7 +15,7 @@ use qc_words::Request;
 /// The greatest length of a file that is read whole, in bytes.
 const FILE_LIMIT: usize = 8_388_608;
 
-/// The names of the files that a command reads, and of the plan that it writes.
+/// The names of the files that a command reads, and of the plan that a search writes.
 #[derive(Clone, Copy)]
 pub(crate) struct Names<'a> {
     pub(crate) read: Inputs<'a>,
@@ -31,6 +32,10 @@ pub(crate) fn names_of<'a>(request: &Request<'a>) -> Option<Names<'a>> {
         Request::Plans(asked) => Some(Names {
             read: asked.inputs,
             written: Some(asked.plan),
+        }),
+        Request::Odds(asked) => Some(Names {
+            read: asked.inputs,
+            written: None,
         }),
         Request::Moves(_)
         | Request::Make { .. }
@@ -64,6 +69,15 @@ pub(crate) fn ship_of(page: &mut Page, bytes: &[u8]) -> Option<Ship> {
         Ok(ship) => Some(ship),
         Err(ShipError::Fault(_)) => None,
         Err(ShipError::OutOfMemory) => page.unless_short(Err(OutOfMemory)),
+    }
+}
+
+/// The past tasks of a table; none where that has a fault.
+pub(crate) fn past_of(page: &mut Page, bytes: &[u8]) -> Option<Past> {
+    match read_past(page.alloc(), bytes) {
+        Ok(past) => Some(past),
+        Err(PastError::Fault(_)) => None,
+        Err(PastError::OutOfMemory) => page.unless_short(Err(OutOfMemory)),
     }
 }
 

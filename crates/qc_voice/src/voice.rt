@@ -4,16 +4,19 @@ ghost use Rattle.qc_io.specs.Outside.{beside};
 ghost use Rattle.qc_voice.specs.Frame.{LeavesFiles};
 
 use crate::bay_plans::say_bay_plans;
+use crate::odds::say_chances;
 use crate::order::say_idle_entries;
 use crate::texts::{Names, again, instance_of, names_of, ship_of};
 use qc_explain::{
-    say_broken, say_course, say_infeasible, say_log, say_plan, say_spent, say_tree, say_waits,
+    say_broken, say_course, say_infeasible, say_log, say_no_rest, say_past, say_plan, say_spent,
+    say_tree, say_waits,
 };
 use qc_gantt::PlanFault;
 use qc_hints::{counts_decimetres, say_notes, say_ship, say_stow, say_usage};
 use qc_io::{Shelf, Sink, put_all};
 use qc_num::Bytes;
 use qc_page::Page;
+use qc_past::PastFault;
 use qc_run::{Broken, Cause, Ended, Input, Inputs, LogFault, Refusal, Status};
 use qc_ship::ShipFault;
 use qc_stow::StowFault;
@@ -30,6 +33,7 @@ fn word_of(file: Input) -> &'static str {
         Input::Tree => "TREE",
         Input::Own => "OWN",
         Input::Log => "LOG",
+        Input::Past => "PAST",
         Input::Arrival => "ARRIVAL",
         Input::Departure => "DEPARTURE",
     }
@@ -162,6 +166,15 @@ fn say_bad_log<S: Shelf>(page: &mut Page, shelf: &mut S, inputs: &Inputs<'_>, fa
     }
 }
 
+/// Says what is wrong with the table of past tasks.
+fn say_bad_past<S: Shelf>(page: &mut Page, shelf: &mut S, inputs: &Inputs<'_>, fault: PastFault)
+    ensures { LeavesFiles (S.Sink.view shelf.old) (S.Sink.view shelf.new) }
+{
+    if let Some((name, past)) = faulty(page, shelf, inputs, Input::Past) {
+        say_past(page, name, past.as_slice(), fault)
+    }
+}
+
 /// Says why a command wasn't served.
 fn say_refusal<S: Shelf>(page: &mut Page, shelf: &mut S, inputs: &Inputs<'_>, why: Refusal)
     ensures { LeavesFiles (S.Sink.view shelf.old) (S.Sink.view shelf.new) }
@@ -175,6 +188,7 @@ fn say_refusal<S: Shelf>(page: &mut Page, shelf: &mut S, inputs: &Inputs<'_>, wh
         Refusal::BadPlan(fault) => say_bad_plan(page, shelf, inputs, fault),
         Refusal::BadTree(fault) => say_bad_tree(page, shelf, inputs, fault),
         Refusal::BadLog(fault) => say_bad_log(page, shelf, inputs, fault),
+        Refusal::BadPast(fault) => say_bad_past(page, shelf, inputs, fault),
         Refusal::BadBayPlan(_, _) => {}
     }
 }
@@ -265,6 +279,7 @@ fn say_served<S: Shelf>(page: &mut Page, shelf: &mut S, names: &Names<'_>, ended
     say_on_ship(page, shelf, names, ended);
     match &ended.cause {
         Some(Cause::Waits(waits)) => say_waits(page, waits.as_slice()),
+        Some(Cause::NoRest(told)) => say_no_rest(page, names.read.log.unwrap_or(""), told),
         _ => say_unwritten(page, shelf, names.written, ended.status),
     }
 }
@@ -296,11 +311,24 @@ fn say_all<S: Shelf>(page: &mut Page, words: &[String], ended: &Ended, shelf: &m
     }
     let request = request_of(page.alloc(), words);
     if let Some(request) = page.unless_short(request) {
-        if let Request::Moves(asked) = request {
-            say_bay_plans(page, shelf, &asked, ended)
-        } else if let Some(names) = names_of(&request) {
-            say_files(page, shelf, &names, ended)
-        }
+        say_request(page, &request, ended, shelf)
+    }
+}
+
+/// Says what there is to say of a run that was asked for this.
+fn say_request<S: Shelf>(page: &mut Page, request: &Request<'_>, ended: &Ended, shelf: &mut S)
+    ensures { LeavesFiles (S.Sink.view shelf.old) (S.Sink.view shelf.new) }
+{
+    if let Request::Moves(asked) = request {
+        return say_bay_plans(page, shelf, asked, ended);
+    }
+    if let Some(names) = names_of(request) {
+        say_files(page, shelf, &names, ended)
+    }
+    if let Request::Odds(asked) = request
+        && ended.status == Status::Done
+    {
+        say_chances(page, shelf, asked)
     }
 }
 
