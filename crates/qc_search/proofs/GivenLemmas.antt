@@ -327,7 +327,7 @@ improving : (end : ℕ) (known : Bound) → Improves end known → ¬ IsAtMost k
 improving end Never sooner late = late
 improving end (Least least) sooner late = omega (arith, sooner, late)
 
-module _ (home : InstanceView) (given : List Slot) (old : Progress) (b : IsBegun home old) where
+module _ (home : InstanceView) (old : Progress) (b : IsBegun home old) where
   known_is : best_end home (known_best home old) ≡ old.incumbent_end
   known_is = best_end_is home (known_best home old) old [] b.progress
 
@@ -363,6 +363,7 @@ module _ (home : InstanceView) (given : List Slot) (old : Progress) (b : IsBegun
   pub aim_is : old.aim ≡ old.incumbent_end → old.aim ≡ best_end home (known_best home old)
   aim_is e = e ∙ sym known_is
 
+module _ (home : InstanceView) (given : List Slot) (old : Progress) (b : IsBegun home old) where
   -- the search begins with it where it ends before what the search began with
   pub offer_taken : (v : Valid home) (way : Direction) (now : Progress) → IsJudgeable home given
       → IsSeenSo home.turn home given way → Improves (ends home given) old.incumbent_end
@@ -370,7 +371,7 @@ module _ (home : InstanceView) (given : List Slot) (old : Progress) (b : IsBegun
       → IsBegun home now × IsOffered home given (known_best home old) (known_best home now)
   offer_taken v way now judgeable so sooner w =
       let goes = goes_seen home given way so in
-      let there = subst (λ (e : Bound). ¬ IsAtMost e (Least (ends home given))) (sym known_is)
+      let there = subst (λ (e : Bound). ¬ IsAtMost e (Least (ends home given))) (sym (known_is home old b))
       (improving (ends home given) old.incumbent_end sooner) in
       subst (λ (p : Progress). IsBegun home p × IsOffered home given (known_best home old) (known_best home p)) (sym w.is) (
         begins_with home v given way now.incumbent w.end judgeable goes w.tightened old so b,

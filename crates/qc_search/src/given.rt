@@ -3,6 +3,7 @@
 //! the earliest starts with these.
 ghost use Rattle.std.specs.Prelude.{◌≡◌, ℕ, ◌<◌, ◌≤◌, [], ◌∷◌, None, length, slice_index_or};
 ghost use Rattle.qc_close.specs.Model.{Assign, GoesBy, IsApart, Valid, pair_of, IsJudgeable, Agrees, Conflicts, IsSettled, assigned, most_start, crane_of, start_of, seen_schedule};
+ghost use Rattle.qc_num.specs.Bounds.{lesser};
 ghost use Rattle.qc_starts.specs.Seen.{AreAssigned};
 ghost use Rattle.qc_starts.specs.Tight.{IsSeenSo, order_in};
 ghost use Rattle.qc_search.specs.Progress.{AreOrdered, IsBegun, IsBegunWith, IsTightened, known_best};
@@ -212,4 +213,14 @@ pub(crate) fn offer(given: &Schedule, way: Direction, roots: &mut Roots, progres
     } else {
         progress.aim = progress.incumbent_end;
     }
+}
+
+/// Aims at an end where that comes before what is aimed at.
+pub(crate) fn aim_at(aim: Bound, _roots: &Roots, progress: &mut Progress)
+    requires { IsBegun _roots.now progress.old }
+    ensures is { progress.new ≡ record progress.old { aim = lesser progress.old.aim aim } }
+    ensures begun { IsBegun _roots.now progress.new }
+{
+    let lower = progress.aim.min(aim);
+    progress.aim = lower;
 }

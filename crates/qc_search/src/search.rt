@@ -13,7 +13,7 @@ ghost use Rattle.qc_tree.specs.Trees.{NoneEarlier};
 
 use crate::best::shown_best;
 use crate::done::Done;
-use crate::given::offer;
+use crate::given::{aim_at, offer};
 use crate::outcome::{end_of, outcome};
 use crate::progress::{Progress, first_progress};
 use crate::roots::Roots;
@@ -103,7 +103,7 @@ impl Search {
     pub fn aim_at(&mut self, aim: Bound)
         ensures { self.new ≡ record self.old { aim = lesser self.old.aim aim } }
     {
-        self.progress.aim = self.progress.aim.min(aim);
+        aim_at(aim, &self.roots, &mut self.progress);
     }
 
     /// What is known before the search: its limit, when what it begins with ends, and an end that no schedule comes
