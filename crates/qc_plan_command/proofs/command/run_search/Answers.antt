@@ -1,4 +1,4 @@
-use Rattle.std.proofs.Common.{◌∙◌, ap}
+use Rattle.std.proofs.Common.{ℕ, ◌∙◌, ap, sym}
 use Rattle.qc_io.specs.Outside.{View}
 use Rattle.qc_plan_command.proofs.StoreLemmas.{was_run}
 use Rattle.qc_search.specs.Run.{SearchView, search_from}
@@ -15,3 +15,8 @@ returns-clause-searched g c =
     (view c.args.shelf.now).files (view c.tell.new.shelf).files (view c.store_tree.new.shelf).files
     (ap (λ (v : View). v.files) c.tell.ensures)
     c.store_tree.result c.store_tree.ensures.ok c.store_tree.ensures.err c.store_tree.ensures.sound
+
+pub offer_to-requires-clause-plain : goal.offer_to-requires-clause-plain
+offer_to-requires-clause-plain g c =
+    let nodes = sym (ap (λ (s : SearchView). s.nodes) c.requires.search) in
+    c.requires.search ∙ ap (λ (n : ℕ). search_from c.args.inst.now n c.args.search.first) nodes
