@@ -9,7 +9,7 @@ use Rattle.qc_model.specs.declared.turn.Turn.{Turn}
 use Rattle.qc_model.specs.OneWay.{IsAllowed, IsAllowedBy}
 use Rattle.qc_search.specs.declared.done.Kind.{Kind}
 use Rattle.qc_search.specs.declared.done.Kind.TheVariants as kind
-use Rattle.qc_search.specs.Run.{branching_limit}
+use Rattle.qc_search.specs.Run.{branching_limit, search_from}
 use Rattle.qc_run.specs.declared.refusal.Stop.{Stop}
 use Rattle.qc_run.specs.declared.status.Status.{Status}
 use Rattle.qc_run.specs.declared.status.Status.TheVariants as status
@@ -23,6 +23,7 @@ use Rattle.qc_run.specs.Told.{EndsBy, IsCutTold, NoneFailed}
 use Rattle.qc_run.proofs.StatusLemmas.{IsOwn, stop_is_not}
 use Rattle.qc_run.proofs.ToldLemmas.{memory_told, never_usage, of_status, refused_told, stop_due, unfailed, whole_of}
 use Rattle.qc_search.proofs.OutcomeLemmas.{of_some}
+use Rattle.qc_search.proofs.RunLemmas.{all_decided, all_spent}
 use Rattle.qc_plan_command.specs.declared.answer.PlanAnswer.{PlanAnswer}
 use Rattle.qc_plan_command.specs.declared.answer.PlanAnswer.TheVariants as answer
 use Rattle.qc_plan_command.specs.Account.{IsLeft, IsOwnBroken, IsPlanRun, IsPlanning, IsStopped, IsWritten}
@@ -80,6 +81,12 @@ module _ (asked : Planning) (before after pb pa : View) (ended : Status)
   optimal_told (Ok (answer.Infeasible branched)) serves e report = absurd (cc e)
   optimal_told (Err why) serves e report = absurd (stop_is_not why status.Optimal e tt)
 
+  -- under Budget all branchings that were asked for are spent
+  spent_all : (held : Files) (a : PlanAnswer) (w : IsWritten asked held after.files a) → w.search.done.kind ≡ kind.Budget
+      → w.search.done.branched ≡ asked.nodes
+  spent_all held a w =
+      all_spent (search_from w.search.inst asked.nodes w.search.found.first) w.search.done w.search.found.came.sound refl
+
   budget_told : Tells (λ s. s ≡ status.BudgetPlan) (λ held. IsBudgetTold asked held after.files pb pa)
   budget_told (Ok (answer.Planned told)) serves e report = by before.files serves.0.1
     where
@@ -104,7 +111,7 @@ module _ (asked : Planning) (before after pb pa : View) (ended : Status)
                   own_no_later h.search.inst asked.nodes h.search.own h.search.tree h.search.done told
                   h.search.found h.told;
             };
-            spent = h.told.branched ∙ h.search.found.came.sound.spent budget;
+            spent = h.told.branched ∙ spent_all held (answer.Planned told) h budget;
           }
   budget_told (Ok answer.WriteFault) serves e report = absurd (cc e)
   budget_told (Ok (answer.Broken broken)) serves e report = absurd (cc e)
@@ -130,7 +137,7 @@ module _ (asked : Planning) (before after pb pa : View) (ended : Status)
             no_own = own_none h.search.inst asked.nodes h.search.own h.search.tree h.search.done h.search.found
                 h.told.0;
             report = report;
-            spent = h.told.2 ∙ h.search.found.came.sound.spent budget;
+            spent = h.told.2 ∙ spent_all held (answer.Unplanned bound branched) h budget;
           }
   unplanned_told (Ok (answer.Planned told)) serves e report = absurd (not_found told.kind e)
     where
@@ -271,7 +278,7 @@ module _ (asked : Planning) (before after pb pa : View) (ended : Status)
       → (job : OwnJob) → own_job_due asked.inputs.own (contents_in held asked.inputs) ≡ Ok job
       → branching_limit job.inst ≤ asked.nodes → ⊥
   undecided held a w budget job is enough =
-      w.search.found.came.sound.decides
+      all_decided (search_from w.search.inst asked.nodes w.search.found.first) w.search.done w.search.found.came.sound refl
       (subst (λ (j : OwnJob). branching_limit j.inst ≤ asked.nodes) (same_ok (sym is ∙ w.search.due)) enough)
       budget
 

@@ -8,7 +8,7 @@ use Rattle.qc_model.specs.declared.turn.Turn.{Turn}
 use Rattle.qc_model.specs.declared.turn.Turn.TheVariants as turn
 use Rattle.qc_model.specs.Instance.{InstanceView, Valid}
 use Rattle.qc_model.specs.OneWay.{IsAllowed, IsAllowedBy}
-use Rattle.qc_search.specs.Run.{DoneView, IsSound, SearchView}
+use Rattle.qc_search.specs.Run.{DoneView, IsSound, SearchView, search_from}
 use Rattle.qc_starts.specs.Tight.{IsSeenSo}
 use Rattle.qc_search.specs.Outcome.{WasOffered}
 use Rattle.qc_search.specs.Stored.{IsTreeLeft, IsTreeStored, with_plan}
@@ -23,7 +23,7 @@ use Rattle.qc_plan_command.specs.declared.answer.PlanAnswer.{PlanAnswer}
 use Rattle.qc_plan_command.specs.declared.answer.PlanAnswer.TheVariants as answer
 use Rattle.qc_plan_command.specs.Account.{IsLeft, IsPlanning, IsSearched, IsStopped, IsWritten, Writes}
 use Rattle.qc_plan_command.specs.Found.{IsSoundAnswer, Tells}
-use Rattle.qc_plan_command.specs.Resources.{IsSearchFor, WasRun, search_from}
+use Rattle.qc_plan_command.specs.Resources.{IsSearchFor, WasRun}
 
 -- what stays as it was is as it was, told or not
 pub as_it_was : (P : Files → Type 0) (before after : Option Files) → after ≡ before

@@ -3,15 +3,12 @@ use Rattle.std.specs.Prelude.{◌≡◌, ℕ, List, Option, None, Result, length
 use Rattle.qc_io.specs.Outside.{Files}
 use Rattle.qc_model.specs.declared.schedule.Slot.{Slot}
 use Rattle.qc_model.specs.Instance.{InstanceView}
-use Rattle.qc_search.specs.Run.{DoneView, IsSound, SearchView}
+use Rattle.qc_search.specs.Run.{DoneView, IsSound, SearchView, search_from}
 use Rattle.qc_search.specs.Outcome.{WasOffered}
 use Rattle.qc_search.specs.Stored.{IsTreeLeft, IsTreeStored}
 use Rattle.qc_plan_command.specs.declared.opened.Resources.{Resources}
 use Rattle.qc_plan_command.specs.InitialPlan.{IsInitialPlan}
 use Rattle.qc_plan_command.specs.Rooms.{IsRoom}
-
-abbrev pub search_from : InstanceView → (nodes : ℕ) → Option (List Slot) → SearchView
-search_from inst nodes first = record { inst = inst; nodes = nodes; first = first }
 
 -- the search is one of the instance, with so many branchings, and was offered the planner's own schedule, if there is one
 pub record IsSearchFor (inst : InstanceView) (nodes : ℕ) (own : Option (List Slot)) (search : SearchView) : Type 0 where

@@ -7,6 +7,7 @@ ghost use Rattle.qc_model.specs.Judge.{IsJudgeable};
 ghost use Rattle.qc_model.specs.Numbers.{most_branchings};
 ghost use Rattle.qc_plan_command.specs.InitialPlan.{IsInitialPlan, IsGoing};
 ghost use Rattle.qc_search.specs.Outcome.{WasOffered};
+ghost use Rattle.qc_search.specs.Run.{search_from};
 
 use crate::nowhere::Nowhere;
 use crate::telling::{first_found, own_end};
@@ -130,8 +131,8 @@ impl InitialPlan {
     /// Offers that plan to the search.
     pub(crate) fn offer_to(self, inst: &Instance, search: &mut Search)
         requires ahead { IsInitialPlan inst.now self }
-        requires inst { search.old.inst ≡ inst.now }
-        ensures stays { search.new ≡ record search.old { first = search.new.first } }
+        requires plain { search.old ≡ search_from inst.now search.old.nodes search.old.first }
+        ensures stays { search.new ≡ search_from inst.now search.old.nodes search.new.first }
         ensures offered { (found : Option (List Slot)) × WasOffered inst.now found search.old.first search.new.first }
     {
         if let Some(found) = self.found(inst) {

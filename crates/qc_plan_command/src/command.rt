@@ -9,10 +9,11 @@ ghost use Rattle.qc_run.specs.Steps.{ComesTo};
 ghost use Rattle.qc_plan_command.specs.Account.{IsPlanRun, IsPlanning};
 ghost use Rattle.qc_plan_command.specs.InitialPlan.{IsInitialPlan};
 ghost use Rattle.qc_run.specs.Inputs.{names_of, planning};
-ghost use Rattle.qc_plan_command.specs.Resources.{IsOpened, IsSearchFor, WasRun, search_from};
+ghost use Rattle.qc_plan_command.specs.Resources.{IsOpened, IsSearchFor, WasRun};
 ghost use Rattle.qc_plan_command.specs.Promises.{PlanPromises};
 ghost use Rattle.qc_plan_command.specs.Reports.{CanBeTold};
 ghost use Rattle.qc_plan_command.specs.Stored.{IsCut, IsStored};
+ghost use Rattle.qc_search.specs.Run.{search_from};
 
 use crate::ahead::InitialPlan;
 use crate::answer::PlanAnswer;

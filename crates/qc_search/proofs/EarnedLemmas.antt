@@ -1,17 +1,18 @@
 -- Nodes that are earned one behind the other.
-use Rattle.std.proofs.Common.{◌≡◌, ℕ, ◌+◌, ◌⊎◌, inl, inr, cond, List, [], ◌∷◌, ◌++◌, drop, get_or, refl, ap, sym, subst, ◌∙◌, append_assoc, arith, All, Any, Contains}
+use Rattle.std.proofs.Common.{◌≡◌, ℕ, ◌+◌, ◌<◌, ◌≤◌, ◌⊎◌, inl, inr, cond, List, [], ◌∷◌, ◌++◌, drop, get_or, refl, ap, sym, subst, ◌∙◌, append_assoc, arith, All, Any, Contains}
+use Rattle.std.proofs.lemmas.Bool.{cases_lt}
 use Rattle.std.proofs.lemmas.List.{append-nil}
 use Rattle.std.proofs.lemmas.List.Elements.{All-append, All-cons, Contains-append_left, Contains-push}
 use Rattle.std.proofs.lemmas.List.Sums.{sum_by-append, sum_by-cons}
 use Rattle.std.proofs.lemmas.Simd.{map-map}
 use Rattle.qc_num.specs.declared.bound.Bound.{Bound}
-use Rattle.qc_num.specs.declared.bound.Bound.TheVariants.{Least}
+use Rattle.qc_num.specs.declared.bound.Bound.TheVariants.{Least, Never}
 use Rattle.qc_num.specs.Bounds.{IsAtMost, least_bound, lesser}
 use Rattle.qc_close.specs.Model.{Direction, InstanceView, seen}
 use Rattle.qc_tree.specs.Trees.{Node, branches, branchings, part_value}
 use Rattle.qc_search.specs.Earned.{IsEarnedBehind, IsKnownEnd, IsSolvedBy, TreeNode, branchings_in, node_at, part_nodes}
 use Rattle.qc_search.specs.Progress.{AreEarned, value_at, value_in}
-use Rattle.qc_num.proofs.BoundLemmas.{at_most_through, lesser_assoc, lesser_never, same_least}
+use Rattle.qc_num.proofs.BoundLemmas.{at_most_through, lesser_assoc, lesser_first, lesser_never, same_least, second_through}
 
 -- ---- lists
 
@@ -38,33 +39,33 @@ all_one P x p = All-cons P x [] p (λ k d low. absurd (omega arith))
 
 -- ---- one behind the other
 
-module _ (home : InstanceView) (most : ℕ) (first : Bound) where
-  pub earned_then : (before one two : List TreeNode) → AreEarned home most first before one
-      → AreEarned home most first (before ++ one) two → AreEarned home most first before (one ++ two)
-  earned_then before [] two h k = subst (λ (b : List TreeNode). AreEarned home most first b two) (append-nil before) k
+module _ (home : InstanceView) (most : ℕ) (aim : Bound) where
+  pub earned_then : (before one two : List TreeNode) → AreEarned home most aim before one
+      → AreEarned home most aim (before ++ one) two → AreEarned home most aim before (one ++ two)
+  earned_then before [] two h k = subst (λ (b : List TreeNode). AreEarned home most aim b two) (append-nil before) k
   earned_then before (node ∷ one) two h k = (
     h.0,
     earned_then (before ++ node ∷ []) one two h.1
-        (subst (λ (b : List TreeNode). AreEarned home most first b two) (sym (append_assoc before (node ∷ []) one)) k),
+        (subst (λ (b : List TreeNode). AreEarned home most aim b two) (sym (append_assoc before (node ∷ []) one)) k),
   )
 
-  each_earned : (nodes before : List TreeNode) → AreEarned home most first before nodes
+  each_earned : (nodes before : List TreeNode) → AreEarned home most aim before nodes
       → (front : List TreeNode) (node : TreeNode) (rest : List TreeNode) → nodes ≡ front ++ node ∷ rest
-      → IsEarnedBehind home most first (before ++ front) node
+      → IsEarnedBehind home most aim (before ++ front) node
   each_earned [] before h front node rest e = absurd (no_cons front node rest e)
   each_earned (n ∷ nodes) before h [] node rest e =
-      subst (λ (b : List TreeNode). IsEarnedBehind home most first b node) (sym (append-nil before))
-      (subst (IsEarnedBehind home most first before) (cons_head n node nodes rest e) h.0)
+      subst (λ (b : List TreeNode). IsEarnedBehind home most aim b node) (sym (append-nil before))
+      (subst (IsEarnedBehind home most aim before) (cons_head n node nodes rest e) h.0)
   each_earned (n ∷ nodes) before h (x ∷ front) node rest e =
       let below = each_earned nodes (before ++ n ∷ []) h.1 front node rest (cons_tail n x nodes (front ++ node ∷ rest) e) in
-      subst (λ (b : List TreeNode). IsEarnedBehind home most first b node)
+      subst (λ (b : List TreeNode). IsEarnedBehind home most aim b node)
       (append_assoc before (n ∷ []) front
       ∙ ap (λ (y : TreeNode). before ++ y ∷ front) (cons_head n x nodes (front ++ node ∷ rest) e))
       below
 
-  pub all_earned : (nodes : List TreeNode) → AreEarned home most first [] nodes
+  pub all_earned : (nodes : List TreeNode) → AreEarned home most aim [] nodes
       → (front : List TreeNode) (node : TreeNode) (rest : List TreeNode) → nodes ≡ front ++ node ∷ rest
-      → IsEarnedBehind home most first front node
+      → IsEarnedBehind home most aim front node
   all_earned nodes h = each_earned nodes [] h
 
 -- ---- the least end that is known
@@ -102,6 +103,46 @@ module _ (home : InstanceView) (first : Bound) (before : List TreeNode) (u : Bou
         All-append P before (node ∷ [])
         (λ k d low s. at_most_through (Least end) u (Least other) sooner (known.least other k d low s))
         (all_one P node (λ s. omega (arith, one other s)));
+  }
+
+-- ---- the least end that is known with an aim
+
+pub lesser_is : (a b : Bound) → (lesser a b ≡ a) ⊎ (lesser a b ≡ b)
+lesser_is (Least a) (Least b) = by_order (cases_lt a b)
+  where
+    by_order : (a < b) ⊎ (b ≤ a) → (lesser (Least a) (Least b) ≡ Least a) ⊎ (lesser (Least a) (Least b) ≡ Least b)
+    by_order (inl less) = inl (ap Least (omega (arith, less)))
+    by_order (inr more) = inr (ap Least (omega (arith, more)))
+lesser_is (Least a) Never = inl refl
+lesser_is Never b = inr refl
+
+at_most_both : (a b : Bound) → IsAtMost a b → IsAtMost b a → a ≡ b
+at_most_both (Least a) (Least b) h k = ap Least (omega (arith, h, k))
+at_most_both (Least a) Never h k = absurd k
+at_most_both Never (Least b) h k = absurd h
+at_most_both Never Never h k = refl
+
+module _ (home : InstanceView) (first aim : Bound) (nodes : List TreeNode) (known : Bound)
+    (k : IsKnownEnd home first nodes known) (under : IsAtMost aim first) where
+  -- where the end is the first one, it is the aim too
+  aimed_reached : (end : ℕ) → lesser aim known ≡ Least end → (aim ≡ Least end) ⊎ Any (IsSolvedBy home end) nodes
+  aimed_reached end is = by_lesser (lesser_is aim known)
+    where
+      by_known : (first ≡ Least end) ⊎ Any (IsSolvedBy home end) nodes → (aim ≡ Least end) ⊎ Any (IsSolvedBy home end) nodes
+      by_known (inl e) =
+          inl (at_most_both aim (Least end) (subst (IsAtMost aim) e under)
+          (subst (λ (b : Bound). IsAtMost b aim) is (lesser_first aim known)))
+      by_known (inr any) = inr any
+
+      by_lesser : (lesser aim known ≡ aim) ⊎ (lesser aim known ≡ known) → (aim ≡ Least end) ⊎ Any (IsSolvedBy home end) nodes
+      by_lesser (inl e) = inl (sym e ∙ is)
+      by_lesser (inr e) = by_known (k.reached end (sym e ∙ is))
+
+  pub aimed : IsKnownEnd home aim nodes (lesser aim known)
+  aimed = record {
+    reached = aimed_reached;
+    given = lesser_first aim known;
+    least = λ end j d low solved. second_through aim known (Least end) (k.least end j d low solved);
   }
 
 -- ---- what nodes come to

@@ -5,9 +5,9 @@ use Rattle.std.specs.List.{range_with_len}
 use Rattle.smallvec.specs.SmallVec.{SmallVec}
 use Rattle.qc_num.specs.declared.bound.Bound.{Bound}
 use Rattle.qc_num.specs.declared.bound.Bound.TheVariants.{Least, Never}
-use Rattle.qc_num.specs.Bounds.{IsAtMost}
+use Rattle.qc_num.specs.Bounds.{IsAtMost, lesser}
 use Rattle.qc_num.specs.Paths.{HasRoom}
-use Rattle.qc_num.proofs.BoundLemmas.{same_least}
+use Rattle.qc_num.proofs.BoundLemmas.{at_most_never, at_most_same, first_through, same_least}
 use Rattle.qc_close.specs.Model.{Decision, Assign, Order, Direction, Up, Down, Pair, Slot, Turn, OneWay, Free, GoesBy, InstanceView, Valid, ticks_of, IsDirection, IsJudgeable, Agrees, AreLeast, IsSettled, Meets, assigned, forced, schedule_with, most_branchings, most_start, most_tasks, GoesUp, Feasible, crane_of, end_of, ends, start_of, starts, seen, seen_number, seen_schedule}
 use Rattle.qc_model.proofs.Bounded.{last_end_le}
 use Rattle.qc_model.proofs.CompleteNodes.{agrees_with, ends_with, feasible_least, forced_ticks, goes_least}
@@ -19,11 +19,12 @@ use Rattle.qc_starts.specs.Seen.{AreAssigned}
 use Rattle.qc_starts.specs.Tight.{IsSeenSo, IsTightForm, decided_by, order_in, ordered_pairs}
 use Rattle.qc_search.specs.declared.progress.Progress.{Progress}
 use Rattle.qc_search.specs.Earned.{IsKnownEnd, node_at}
-use Rattle.qc_search.specs.Progress.{AreOrdered, Improves, IsBegun, IsBegunWith, IsKept, IsProgress, IsTightened, begun, known_best, shown_best}
+use Rattle.qc_search.specs.Progress.{AreOrdered, Improves, IsBegun, IsBegunWith, IsKept, IsProgress, IsTightened, begun, cutoff, known_best, shown_best}
 use Rattle.qc_search.specs.Run.{IsOffered, best_end}
 use Rattle.qc_search.proofs.DecidedLemmas.{decided_least}
 use Rattle.qc_search.proofs.PairLemmas.{Rises, ordered_rise, same_pairs}
 use Rattle.qc_search.proofs.ShownLemmas.{turned_as_met}
+use Rattle.qc_search.proofs.StepLemmas.{kept_as}
 use Rattle.qc_search.proofs.TightLemmas.{best_end_is, seen_end}
 use Rattle.qc_tree.specs.Trees.{on_task}
 
@@ -213,7 +214,7 @@ module _ (home : InstanceView) (v : Valid home) (given : List Slot) (way : Direc
 
   -- the progress that begins with it is that of no nodes
   abbrev progress_of : Progress → Progress
-  progress_of old = record old { incumbent_end = Least end; way = way; incumbent = kept }
+  progress_of old = record old { aim = Least end; incumbent_end = Least end; way = way; incumbent = kept }
 
   abbrev first_kept : (home.turn ≡ Free → way ≡ Up) → (old : Progress) → IsKept home (Some form) (progress_of old) [] end
   first_kept only_up old = record {
@@ -243,9 +244,10 @@ module _ (home : InstanceView) (v : Valid home) (given : List Slot) (way : Direc
     branched = b.progress.branched;
     bound = b.progress.bound;
     known = first_known;
+    under = omega (arith, end_is);
     best = λ other e.
         subst (IsKept home (Some form) (progress_of old) []) (same_least end other e) (first_kept only_up old);
-    late = λ left. subst (IsAtMost (Least end)) (sym b.bound) tt;
+    late = λ left. subst (IsAtMost (cutoff (progress_of old))) (sym b.bound) tt;
   }
 
   pub begins_with : (old : Progress) → IsSeenSo home.turn home given way → IsBegun home old
@@ -280,6 +282,7 @@ begins_without home limit incumbent path count room few = record {
       given = tt;
       least = λ end k d low. absurd (omega (arith, low));
     };
+    under = tt;
     best = λ end e. absurd (cc e);
     late = λ left. tt;
   };
@@ -324,10 +327,43 @@ improving : (end : ℕ) (known : Bound) → Improves end known → ¬ IsAtMost k
 improving end Never sooner late = late
 improving end (Least least) sooner late = omega (arith, sooner, late)
 
-module _ (home : InstanceView) (given : List Slot) (old : Progress) (b : IsBegun home old) where
+module _ (home : InstanceView) (old : Progress) (b : IsBegun home old) where
   known_is : best_end home (known_best home old) ≡ old.incumbent_end
   known_is = best_end_is home (known_best home old) old [] b.progress
 
+  -- it may aim at any end that comes no later than the incumbent's
+  pub aims_at : (aim : Bound) → IsAtMost aim old.incumbent_end → IsBegun home (record old { aim = aim })
+  aims_at aim under =
+      let new = record old { aim = aim } in
+      record {
+        progress = record {
+          few = b.progress.few;
+          branched = b.progress.branched;
+          bound = b.progress.bound;
+          known = b.progress.known;
+          under = subst (IsAtMost aim) (sym known_is) under;
+          best = λ end e. kept_as home (known_best home old) old new [] [] end refl refl (λ n c. c) (b.progress.best end e);
+          late = λ left. subst (IsAtMost (cutoff new)) (sym b.bound) (at_most_never (cutoff new));
+        };
+        bound = b.bound;
+        count = b.count;
+        room = b.room;
+        few = b.few;
+      }
+
+  pub aims_lower : (aim : Bound) → IsBegun home (record old { aim = lesser old.aim aim })
+  aims_lower aim =
+      aims_at (lesser old.aim aim)
+      (first_through old.aim aim old.incumbent_end (subst (IsAtMost old.aim) known_is b.progress.under))
+
+  pub aims_best : IsBegun home (record old { aim = old.incumbent_end })
+  aims_best = aims_at old.incumbent_end (at_most_same old.incumbent_end)
+
+  -- it aims at the incumbent's end, which is that of what it begins with
+  pub aim_is : old.aim ≡ old.incumbent_end → old.aim ≡ best_end home (known_best home old)
+  aim_is e = e ∙ sym known_is
+
+module _ (home : InstanceView) (given : List Slot) (old : Progress) (b : IsBegun home old) where
   -- the search begins with it where it ends before what the search began with
   pub offer_taken : (v : Valid home) (way : Direction) (now : Progress) → IsJudgeable home given
       → IsSeenSo home.turn home given way → Improves (ends home given) old.incumbent_end
@@ -335,7 +371,7 @@ module _ (home : InstanceView) (given : List Slot) (old : Progress) (b : IsBegun
       → IsBegun home now × IsOffered home given (known_best home old) (known_best home now)
   offer_taken v way now judgeable so sooner w =
       let goes = goes_seen home given way so in
-      let there = subst (λ (e : Bound). ¬ IsAtMost e (Least (ends home given))) (sym known_is)
+      let there = subst (λ (e : Bound). ¬ IsAtMost e (Least (ends home given))) (sym (known_is home old b))
       (improving (ends home given) old.incumbent_end sooner) in
       subst (λ (p : Progress). IsBegun home p × IsOffered home given (known_best home old) (known_best home p)) (sym w.is) (
         begins_with home v given way now.incumbent w.end judgeable goes w.tightened old so b,

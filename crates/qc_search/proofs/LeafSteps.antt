@@ -9,7 +9,7 @@ use Rattle.qc_num.specs.declared.bound.Bound.{Bound}
 use Rattle.qc_num.specs.declared.bound.Bound.TheVariants.{Least, Never}
 use Rattle.qc_num.specs.Bounds.{IsAtMost, lesser}
 use Rattle.qc_num.specs.Paths.{HasRoom}
-use Rattle.qc_num.proofs.BoundLemmas.{at_most_never, at_most_through, lesser_never}
+use Rattle.qc_num.proofs.BoundLemmas.{at_most_never, at_most_through, lesser_never, second_through}
 use Rattle.smallvec.specs.SmallVec.{SmallVec}
 use Rattle.qc_bounds.specs.declared.leaves.LeafKind.{LeafKind}
 use Rattle.qc_bounds.specs.declared.leaves.LeafKind.TheVariants as kind
@@ -25,12 +25,12 @@ use Rattle.qc_search.specs.declared.branch.Branch.{Branch}
 use Rattle.qc_search.specs.declared.progress.Progress.{Progress}
 use Rattle.qc_search.specs.Earned.{IsChainTo, IsClosedAt, IsGivenUp, IsClashLate}
 use Rattle.qc_search.specs.Lines.{IsLeafBy, leaf_of}
-use Rattle.qc_search.specs.Progress.{IsPassed, IsSoon, IsStep, IsTaken, Visits, WritesNodes, emptied, left_by}
+use Rattle.qc_search.specs.Progress.{IsPassed, IsSoon, IsStep, IsTaken, Visits, WritesNodes, cutoff, emptied, left_by}
 use Rattle.qc_search.specs.Walk.{IsOpenBranch, first_of, from_child, from_node, sign_of}
 use Rattle.qc_search.proofs.DescentLemmas.{branch_due}
 use Rattle.qc_search.proofs.LineLemmas.{work_shown}
 use Rattle.qc_search.proofs.NodesLemmas.{from_path, step_written}
-use Rattle.qc_search.proofs.StepLemmas.{IsLeafStep, branch_step, leaf_step, met_before, same_but}
+use Rattle.qc_search.proofs.StepLemmas.{IsLeafStep, branch_step, cut_before, leaf_step, same_but}
 
 -- ---- out of reach
 
@@ -69,7 +69,7 @@ reach_step inst way ds d now away =
       };
       given_up = λ open_node. absurd (open_node (out_of_reach out));
       meets = inl (record { same = refl; late = λ begins all within least. absurd (away (reached_in inst ds d within)) });
-      late = λ left. subst (IsAtMost now.incumbent_end) (sym value) (at_most_never now.incumbent_end);
+      late = λ left. subst (IsAtMost (cutoff now)) (sym value) (at_most_never (cutoff now));
     }))
 
 -- ---- closed, and given up
@@ -212,42 +212,43 @@ met_by_end inst way ds old mid end (inr t) within all e =
 -- the leaf of a closed node shows no end sooner than the one that was met
 closed_late : (inst : InstanceView) (way : Direction) (ds : List Decision) (old mid : Progress) (leaf : LeafKind)
     (tasks : List ℕ) → IsPassed inst ds old mid ⊎ IsTaken inst way ds old mid → IsInReach inst ds
-    → IsClosedBy inst ds old.incumbent_end leaf tasks → IsAtMost mid.incumbent_end (sign_value inst ds (signs.leaf (leaf_of leaf tasks)))
+    → IsClosedBy inst ds (cutoff old) leaf tasks → IsAtMost (cutoff mid) (sign_value inst ds (signs.leaf (leaf_of leaf tasks)))
 closed_late inst way ds old mid kind.Chain tasks meets within h =
-    subst (IsAtMost mid.incumbent_end) (sym (ap (λ (o : Option Bound). unwrap_or o Never) h.0.chain)) (by_due h.1)
+    subst (IsAtMost (cutoff mid)) (sym (ap (λ (o : Option Bound). unwrap_or o Never) h.0.chain)) (by_due h.1)
   where
-    by_due : IsComplete inst ds ⊎ IsAtMost old.incumbent_end (Least h.0.end) → IsAtMost mid.incumbent_end (Least h.0.end)
-    by_due (inl all) = met_by_end inst way ds old mid h.0.end meets within all h.0.ends
-    by_due (inr late) = at_most_through mid.incumbent_end old.incumbent_end (Least h.0.end) (met_before inst way ds old mid meets) late
+    by_due : IsComplete inst ds ⊎ IsAtMost (cutoff old) (Least h.0.end) → IsAtMost (cutoff mid) (Least h.0.end)
+    by_due (inl all) =
+        second_through mid.aim mid.incumbent_end (Least h.0.end) (met_by_end inst way ds old mid h.0.end meets within all h.0.ends)
+    by_due (inr late) = at_most_through (cutoff mid) (cutoff old) (Least h.0.end) (cut_before inst way ds old mid meets) late
 closed_late inst way ds old mid kind.Ring tasks meets within h =
-    subst (IsAtMost mid.incumbent_end) (sym (ap (λ (o : Option Bound). unwrap_or o Never) h.ring)) (at_most_never mid.incumbent_end)
+    subst (IsAtMost (cutoff mid)) (sym (ap (λ (o : Option Bound). unwrap_or o Never) h.ring)) (at_most_never (cutoff mid))
 closed_late inst way ds old mid (kind.Work end) tasks meets within h =
-    subst (IsAtMost mid.incumbent_end) (sym (ap (λ (o : Option Bound). unwrap_or o Never) h.0.shows))
-    (at_most_through mid.incumbent_end old.incumbent_end (Least end) (met_before inst way ds old mid meets) (at_most_is old.incumbent_end end h.1))
+    subst (IsAtMost (cutoff mid)) (sym (ap (λ (o : Option Bound). unwrap_or o Never) h.0.shows))
+    (at_most_through (cutoff mid) (cutoff old) (Least end) (cut_before inst way ds old mid meets) (at_most_is (cutoff old) end h.1))
 closed_late inst way ds old mid (kind.Clash end) tasks meets within h =
-    subst (IsAtMost mid.incumbent_end) (sym (ap (λ (o : Option Bound). unwrap_or o Never) h.0.shows))
-    (at_most_through mid.incumbent_end old.incumbent_end (Least end) (met_before inst way ds old mid meets) h.1)
+    subst (IsAtMost (cutoff mid)) (sym (ap (λ (o : Option Bound). unwrap_or o Never) h.0.shows))
+    (at_most_through (cutoff mid) (cutoff old) (Least end) (cut_before inst way ds old mid meets) h.1)
 
 module _ (inst : InstanceView) (way : Direction) (ds : List Decision) (leaf : LeafKind) (old : Progress) where
   -- the leaf that closes the node, behind the meeting of it
   pub closed_step : (mid : Progress) → IsPassed inst ds old mid ⊎ IsTaken inst way ds old mid → IsInReach inst ds
-      → IsClosedBy inst ds old.incumbent_end leaf old.path.items
+      → IsClosedBy inst ds (cutoff old) leaf old.path.items
       → IsLeafStep inst way ds (leaf_of leaf old.path.items) old mid
   closed_step mid meets within by = record {
-    holds = holds_by inst ds leaf old.path.items (leaf_closes inst ds old.incumbent_end leaf old.path.items by);
-    closed = λ _. closed_as inst ds old.incumbent_end leaf old.path.items within by;
-    given_up = λ open_node. inl (packed_as inst ds old.incumbent_end leaf old.path.items by open_node);
+    holds = holds_by inst ds leaf old.path.items (leaf_closes inst ds (cutoff old) leaf old.path.items by);
+    closed = λ _. closed_as inst ds (cutoff old) leaf old.path.items within by;
+    given_up = λ open_node. inl (packed_as inst ds (cutoff old) leaf old.path.items by open_node);
     meets = meets;
     late = λ left. closed_late inst way ds old mid leaf old.path.items meets within by;
   }
 
   -- the leaf of a node that isn't branched on any more
-  pub spent_step : ¬ IsClosable inst ds old.incumbent_end → old.branched ≡ old.limit
+  pub spent_step : ¬ IsClosable inst ds (cutoff old) → old.branched ≡ old.limit
       → IsSpentBy inst ds leaf old.path.items → IsLeafStep inst way ds (leaf_of leaf old.path.items) old old
   spent_step open_node spent by = record {
     holds = holds_by inst ds leaf old.path.items (leaf_spends inst ds leaf old.path.items by);
     closed = λ closable. absurd (open_node closable);
-    given_up = λ _. inr (spent, given_as inst ds old.incumbent_end leaf old.path.items by open_node);
+    given_up = λ _. inr (spent, given_as inst ds (cutoff old) leaf old.path.items by open_node);
     meets = inl (record { same = refl; late = λ begins all within least. absurd (open_node (complete all)) });
     late = λ left. absurd (omega (arith, left, spent));
   }
@@ -277,7 +278,7 @@ leaf_written inst way ds more shows old mid new value result step valued soon is
 module _ {before after : View} (inst : InstanceView) (way : Direction) (ds : List Decision) (leaf : LeafKind)
     (old new : Progress) (value : Bound) (soon : IsSoon value) (result : Result ⊤ WriteFault) where
   pub closed_written : (mid : Progress) → IsPassed inst ds old mid ⊎ IsTaken inst way ds old mid → IsInReach inst ds
-      → IsClosedBy inst ds old.incumbent_end leaf old.path.items
+      → IsClosedBy inst ds (cutoff old) leaf old.path.items
       → leaf_value inst ds (leaf_of leaf old.path.items) ≡ Some value
       → new ≡ record mid { bound = lesser mid.bound value; path = new.path }
       → new.path.capacity ≡ mid.path.capacity
@@ -289,7 +290,7 @@ module _ {before after : View} (inst : InstanceView) (way : Direction) (ds : Lis
       (closed_step inst way ds leaf old mid meets within by) valued soon is capacity
       (subst (λ (t : List ℕ). Writes before after (leaf_text (leaf_of leaf t)) result) tasks w)
 
-  pub spent_written : ¬ IsClosable inst ds old.incumbent_end → old.branched ≡ old.limit
+  pub spent_written : ¬ IsClosable inst ds (cutoff old) → old.branched ≡ old.limit
       → IsSpentBy inst ds leaf old.path.items
       → leaf_value inst ds (leaf_of leaf old.path.items) ≡ Some value
       → new ≡ record old { bound = lesser old.bound value; path = new.path }
@@ -302,7 +303,7 @@ module _ {before after : View} (inst : InstanceView) (way : Direction) (ds : Lis
 
 -- the line of a branching
 pub branch_written : {before after : View} (inst : InstanceView) (way : Direction) (ds : List Decision) (branch : Branch)
-    (old : Progress) (result : Result ⊤ WriteFault) → Valid inst → IsOpenBranch inst ds branch → ¬ IsClosable inst ds old.incumbent_end
+    (old : Progress) (result : Result ⊤ WriteFault) → Valid inst → IsOpenBranch inst ds branch → ¬ IsClosable inst ds (cutoff old)
     → old.branched < old.limit → Writes before after (sign_text (sign_of branch)) result
     → WritesNodes [] before after inst way (from_node inst ds)
     (left_by (λ _. from_child inst ds (Some (first_of branch))) result) old

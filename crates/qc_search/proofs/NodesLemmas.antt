@@ -1,5 +1,5 @@
 -- Nodes that are written one after another, and where their lines are cut.
-use Rattle.std.proofs.Common.{◌≡◌, ℕ, ◌≤◌, List, [], ◌∷◌, ◌++◌, map, Option, None, Some, Result, Ok, Err, refl, ap, sym, subst, ◌∙◌, append_assoc, arith, IsErr, IfOk, OnOk}
+use Rattle.std.proofs.Common.{◌≡◌, ℕ, ◌≤◌, List, [], ◌∷◌, ◌++◌, map, Option, None, Some, Result, Ok, Err, refl, ap, sym, subst, subst₂, ◌∙◌, append_assoc, arith, IsErr, IfOk, OnOk}
 use Rattle.std.proofs.lemmas.Bool.{false≢true}
 use Rattle.std.proofs.lemmas.List.{append-nil, map-append}
 use Rattle.std.proofs.lemmas.Grind.{flat_map-append}
@@ -9,6 +9,7 @@ use Rattle.qc_io.specs.declared.writing.WriteFault.{WriteFault}
 use Rattle.qc_io.specs.Outside.{View}
 use Rattle.qc_io.specs.Writes.{Writes}
 use Rattle.qc_io.proofs.WritesLemmas.{writes_cut, writes_then}
+use Rattle.qc_num.specs.declared.bound.Bound.{Bound}
 use Rattle.qc_num.specs.Paths.{HasRoom}
 use Rattle.smallvec.specs.SmallVec.{SmallVec}
 use Rattle.qc_close.specs.Model.{Decision, Direction, Slot, InstanceView, most_tasks}
@@ -16,7 +17,6 @@ use Rattle.qc_tree.specs.Trees.{Node, Sign, branchings, children, part_text, sig
 use Rattle.qc_tree.proofs.NodeLemmas.{all_given_up, given_up, leads_then, none_branched}
 use Rattle.qc_search.specs.declared.progress.Progress.{Progress}
 use Rattle.qc_search.specs.Earned.{TreeNode, branchings_in, node_at, part_nodes}
-use Rattle.qc_search.specs.Run.{best_end}
 use Rattle.qc_search.specs.Progress.{AreEarned, Comes, IsAlong, IsKept, IsPartOf, IsProgress, IsStep, WritesNodes, emptied, left_by}
 use Rattle.qc_search.proofs.EarnedLemmas.{branched_in, branchings-append, earned_then}
 
@@ -34,6 +34,7 @@ all_up inst due = map (given_up inst) due
 along_then : (inst : InstanceView) (a b c : Progress) → IsAlong inst a b → IsAlong inst b c → IsAlong inst a c
 along_then inst a b c one two = record {
   limit = two.limit ∙ one.limit;
+  aim = two.aim ∙ one.aim;
   count = λ h. two.count (one.count h);
   room = λ h. two.room (one.room h);
   soon = λ h. two.soon (one.soon h);
@@ -56,6 +57,7 @@ by_path home first now path nodes p = record {
   branched = p.branched;
   bound = p.bound;
   known = p.known;
+  under = p.under;
   best = λ end e.
       let k : IsKept home first now nodes end = p.best end e in
       record {
@@ -84,9 +86,9 @@ module _ {inst : InstanceView} {way : Direction} where
         let q = g.earned home first (before ++ mine) seen_so p.1 in
         let both : part_nodes way (one ++ two) ≡ mine ++ part_nodes way two =
         map-append (λ (node : Node). node_at way node.decisions node.sign) one two in
-        let after = subst (λ (n : ℕ). AreEarned home n (best_end home first) (before ++ mine) (part_nodes way two)) f.along.limit q.0 in (
-          subst (AreEarned home a.limit (best_end home first) before) (sym both)
-              (earned_then home a.limit (best_end home first) before mine (part_nodes way two) p.0 after),
+        let after = subst₂ (λ (n : ℕ) (aim : Bound). AreEarned home n aim (before ++ mine) (part_nodes way two)) f.along.limit f.along.aim q.0 in (
+          subst (AreEarned home a.limit a.aim before) (sym both)
+              (earned_then home a.limit a.aim before mine (part_nodes way two) p.0 after),
           subst (IsProgress home first c)
               (append_assoc before mine (part_nodes way two) ∙ ap (λ (r : List TreeNode). before ++ r) (sym both))
               q.1,
@@ -110,7 +112,7 @@ module _ {inst : InstanceView} {way : Direction} where
     few = λ home first earlier seen_so p.
         omega (arith, p.few, p.branched, ap branchings_in (append-nil earlier));
     comes = record {
-      along = record { limit = refl; count = λ h. h; room = λ h. h; soon = λ h. h };
+      along = record { limit = refl; aim = refl; count = λ h. h; room = λ h. h; soon = λ h. h };
       earned = λ home first before seen_so p. (tt, subst (IsProgress home first now) (sym (append-nil before)) p);
     };
   }
@@ -257,6 +259,7 @@ module _ {inst : InstanceView} {way : Direction} where
         (λ c. record {
           along = record {
             limit = c.along.limit;
+            aim = c.along.aim;
             count = c.along.count;
             room = λ h. c.along.room (room h);
             soon = c.along.soon;

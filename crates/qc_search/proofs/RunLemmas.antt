@@ -1,11 +1,12 @@
 -- A tree whose nodes are all earned is a run, and what is told of it.
-use Rattle.std.proofs.Common.{◌≡◌, ℕ, ◌<◌, ◌⊎◌, inl, inr, All, Bool, cond, List, [], length, Option, None, Some, refl, ap, sym, subst, ◌∙◌, arith, IsErr, MatchOption, OnOk, Result, Ok, Err, option_map}
+use Rattle.std.proofs.Common.{◌≡◌, ◌≢◌, ℕ, ◌<◌, ◌≤◌, ◌⊎◌, inl, inr, All, Bool, cond, List, [], length, Option, None, Some, refl, ap, sym, subst, ◌∙◌, arith, IsErr, MatchOption, OnOk, Result, Ok, Err, option_map}
 use Rattle.std.proofs.Math.Nat.{eq-or-lt_of_le}
 use Rattle.std.proofs.lemmas.Bool.{false≢true, le-leb}
 use Rattle.qc_io.specs.Outside.{View}
 use Rattle.qc_num.specs.declared.bound.Bound.{Bound}
 use Rattle.qc_num.specs.declared.bound.Bound.TheVariants.{Least, Never}
-use Rattle.qc_num.specs.Bounds.{IsAtMost}
+use Rattle.qc_num.specs.Bounds.{IsAtMost, lesser}
+use Rattle.qc_num.proofs.BoundLemmas.{at_most_through}
 use Rattle.qc_close.specs.Model.{Direction, Slot, InstanceView, Valid, ends, seen_schedule}
 use Rattle.qc_tree.specs.Trees.{NoneEarlier, tree_branchings, tree_value}
 use Rattle.qc_tree.proofs.TreeBound.{tree_bound}
@@ -13,9 +14,9 @@ use Rattle.qc_search.specs.declared.progress.Progress.{Progress}
 use Rattle.qc_search.specs.declared.done.Kind.TheVariants.{Budget, Optimal}
 use Rattle.qc_search.specs.Earned.{IsKnownEnd, tree_nodes}
 use Rattle.qc_search.specs.Progress.{IsBegun, IsFrom, IsKept, WritesTree, bound_end, known_best, shown_best}
-use Rattle.qc_search.specs.Run.{DoneView, IsBestKnown, IsRun, IsSearched, IsSound, best_end, outcome}
+use Rattle.qc_search.specs.Run.{DoneView, IsBestKnown, IsRun, IsSearched, IsSound, SearchView, best_end, branching_limit, outcome}
 use Rattle.qc_search.proofs.CountLemmas.{few_in_tree}
-use Rattle.qc_search.proofs.EarnedLemmas.{all_earned}
+use Rattle.qc_search.proofs.EarnedLemmas.{all_earned, lesser_is}
 use Rattle.qc_search.proofs.ShownLemmas.{best_shown, cranes_low, goes_is, judgeable_is, tight_is}
 use Rattle.qc_search.proofs.TightLemmas.{best_end_is, best_soon, kept_end}
 use Rattle.qc_search.proofs.TreeLemmas.{bound_is, branched_is}
@@ -26,6 +27,14 @@ decided Never met is late = cc is
 decided (Least value) Never is late = late
 decided (Least value) (Least end) is late =
     cc (sym is ∙ ap (λ (b : Bool). cond b Optimal Budget) (le-leb end value late))
+
+-- what the lesser of two bounds is at most, one of them is
+at_most_one : (a b c : Bound) → IsAtMost (lesser a b) c → IsAtMost a c ⊎ IsAtMost b c
+at_most_one a b c h = by_lesser (lesser_is a b)
+  where
+    by_lesser : (lesser a b ≡ a) ⊎ (lesser a b ≡ b) → IsAtMost a c ⊎ IsAtMost b c
+    by_lesser (inl e) = inl (subst (λ (x : Bound). IsAtMost x c) e h)
+    by_lesser (inr e) = inr (subst (λ (x : Bound). IsAtMost x c) e h)
 
 -- what holds of a value holds of no error
 pub not_ok : {T E : Type 0} (P : Type 0) (r : Result T E) → IsErr r → OnOk r P
@@ -85,31 +94,56 @@ module _ (home : InstanceView) (v : Valid home) {before after : View} (old now :
   bound_told : now.bound ≡ tree_value home w.tree
   bound_told = bound_is home first w.tree now w.progress
 
-  -- under Budget all branchings are spent
-  spent_is : outcome now.bound now.incumbent_end ≡ Budget → now.branched ≡ old.limit
+  -- under Budget all branchings are spent, or the aim is shown
+  spent_is : outcome now.bound now.incumbent_end ≡ Budget → (now.branched ≡ old.limit) ⊎ IsAtMost old.aim now.bound
   spent_is kind = by_left (eq-or-lt_of_le w.progress.few)
     where
-      by_left : (now.branched ≡ now.limit) ⊎ (now.branched < now.limit) → now.branched ≡ old.limit
-      by_left (inl all) = all ∙ w.limit
-      by_left (inr left) = absurd (decided now.bound now.incumbent_end kind (w.progress.late left))
+      by_late : IsAtMost now.aim now.bound ⊎ IsAtMost now.incumbent_end now.bound
+          → (now.branched ≡ old.limit) ⊎ IsAtMost old.aim now.bound
+      by_late (inl shown) = inr (subst (λ (a : Bound). IsAtMost a now.bound) w.aim shown)
+      by_late (inr late) = absurd (decided now.bound now.incumbent_end kind late)
 
-  run_is : IsRun home old.limit first w.tree (shown_best (length home.cranes) now.incumbent_end now.way now.incumbent)
+      by_left : (now.branched ≡ now.limit) ⊎ (now.branched < now.limit)
+          → (now.branched ≡ old.limit) ⊎ IsAtMost old.aim now.bound
+      by_left (inl all) = inl (all ∙ w.limit)
+      by_left (inr left) = by_late (at_most_one now.aim now.incumbent_end now.bound (w.progress.late left))
+
+  -- what is told of that, of the tree
+  spent_in : (now.branched ≡ old.limit) ⊎ IsAtMost old.aim now.bound
+      → (tree_branchings w.tree ≡ old.limit) ⊎ IsAtMost old.aim (tree_value home w.tree)
+  spent_in (inl all) = inl (sym branched_told ∙ all)
+  spent_in (inr shown) = inr (subst (IsAtMost old.aim) bound_told shown)
+
+  -- with so many branchings not all are spent
+  decides_is : branching_limit home ≤ old.limit → outcome now.bound now.incumbent_end ≡ Budget → IsAtMost old.aim now.bound
+  decides_is enough kind = by_spent (spent_is kind)
+    where
+      by_spent : (now.branched ≡ old.limit) ⊎ IsAtMost old.aim now.bound → IsAtMost old.aim now.bound
+      by_spent (inl all) = absurd (omega (arith, enough, all, branched_told, few_in_tree home v w.tree w.is_tree))
+      by_spent (inr shown) = shown
+
+  run_is : IsRun home old.limit first old.aim w.tree (shown_best (length home.cranes) now.incumbent_end now.way now.incumbent)
       (outcome now.bound now.incumbent_end)
   run_is = record {
     tight = tight_is home first v old [] b.progress;
     is_tree = w.is_tree;
+    under = b.progress.under;
     earned = record {
       few = omega (arith, branched_told, w.progress.few, w.limit);
-      each = all_earned home old.limit (best_end home first) (tree_nodes w.tree) w.earned;
+      each = all_earned home old.limit old.aim (tree_nodes w.tree) w.earned;
     };
     known = now.incumbent_end;
     ends = w.progress.known;
     is_best = best_is;
     is_kind = ap (λ (b : Bound). outcome b now.incumbent_end) bound_told;
-    spent = λ kind. sym branched_told ∙ spent_is kind;
+    spent = λ kind. spent_in (spent_is kind);
   }
 
-  pub went_searched : IsSearched (record { inst = home; nodes = old.limit; first = first }) before.written after.written
+  -- what was searched
+  abbrev searched : SearchView
+  searched = record { inst = home; nodes = old.limit; first = first; aim = old.aim }
+
+  pub went_searched : IsSearched searched before.written after.written
       (done_of home old.incumbent_end now)
   went_searched = record {
     tree = w.tree;
@@ -122,7 +156,7 @@ module _ (home : InstanceView) (v : Valid home) {before after : View} (old now :
   pub went_cranes : (end : ℕ) → now.incumbent_end ≡ Least end → All (λ (s : Slot). s.crane < length home.cranes) now.incumbent
   went_cranes = cranes_low home first v now _ w.progress
 
-  pub went_sound : IsSound (record { inst = home; nodes = old.limit; first = first }) (done_of home old.incumbent_end now)
+  pub went_sound : IsSound searched (done_of home old.incumbent_end now)
   went_sound =
       let ends_is = best_end_is home first now _ w.progress in
       record {
@@ -135,5 +169,28 @@ module _ (home : InstanceView) (v : Valid home) {before after : View} (old now :
         spent = spent_is;
         given = ap bound_end (sym (best_end_is home first old [] b.progress)) ∙ told_end home first;
         no_later = subst (λ (e : Bound). IsAtMost e (best_end home first)) (sym ends_is) w.progress.known.given;
-        decides = λ enough kind. omega (arith, enough, spent_is kind, branched_told, few_in_tree home v w.tree w.is_tree);
+        decides = decides_is;
       }
+
+-- ---- a search that aims at the end of what it began with
+
+module _ (search : SearchView) (done : DoneView) (sound : IsSound search done)
+    (plain : search.aim ≡ best_end search.inst search.first) where
+  -- such an aim isn't shown under Budget
+  aim_open : done.kind ≡ Budget → ¬ IsAtMost search.aim done.bound
+  aim_open kind shown =
+      decided done.bound (best_end search.inst done.best) (sym sound.kind ∙ kind)
+      (at_most_through (best_end search.inst done.best) (best_end search.inst search.first) done.bound sound.no_later
+      (subst (λ (a : Bound). IsAtMost a done.bound) plain shown))
+
+  -- under Budget exactly as many branchings are written as may be
+  pub all_spent : done.kind ≡ Budget → done.branched ≡ search.nodes
+  all_spent kind = by_spent (sound.spent kind)
+    where
+      by_spent : (done.branched ≡ search.nodes) ⊎ IsAtMost search.aim done.bound → done.branched ≡ search.nodes
+      by_spent (inl all) = all
+      by_spent (inr shown) = absurd (aim_open kind shown)
+
+  -- with so many branchings it comes to a decision
+  pub all_decided : branching_limit search.inst ≤ search.nodes → done.kind ≢ Budget
+  all_decided enough kind = aim_open kind (sound.decides enough kind)

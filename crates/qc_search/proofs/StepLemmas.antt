@@ -5,7 +5,7 @@ use Rattle.std.proofs.lemmas.List.FromFn.{length-map-range_with_len}
 use Rattle.qc_num.specs.declared.bound.Bound.{Bound}
 use Rattle.qc_num.specs.declared.bound.Bound.TheVariants.{Least, Never}
 use Rattle.qc_num.specs.Bounds.{IsAtMost, lesser}
-use Rattle.qc_num.proofs.BoundLemmas.{at_most_lesser, at_most_same, at_most_through, lesser_never, same_least}
+use Rattle.qc_num.proofs.BoundLemmas.{at_most_lesser, at_most_same, at_most_through, lesser_first, lesser_never, same_least, second_through}
 use Rattle.smallvec.specs.SmallVec.{SmallVec}
 use Rattle.qc_bounds.proofs.ClosedLemmas.{one_end}
 use Rattle.qc_close.specs.Model.{Decision, Direction, Up, Free, IsClosable, complete, Slot, InstanceView, Leaf, leaf_value, IsComplete, IsNodeEnd, slot_with, last_end, seen, seen_schedule}
@@ -14,11 +14,11 @@ use Rattle.qc_search.specs.declared.branch.Branch.{Branch}
 use Rattle.qc_search.specs.declared.branch.Branch.TheVariants.{Pair, Task}
 use Rattle.qc_search.specs.declared.progress.Progress.{Progress}
 use Rattle.qc_search.specs.Earned.{IsClosedAt, IsEarnedBehind, IsGivenUp, IsKnownEnd, IsClashLate, IsSolvedBy, MayStand, TreeNode, branchings_in, node_at}
-use Rattle.qc_search.specs.Progress.{Improves, IsAlong, IsFrom, IsKept, IsPartOf, IsPassed, IsProgress, IsSoon, IsStep, IsTaken, value_in}
+use Rattle.qc_search.specs.Progress.{Improves, IsAlong, IsFrom, IsKept, IsPartOf, IsPassed, IsProgress, IsSoon, IsStep, IsTaken, cutoff, value_in}
 use Rattle.qc_search.specs.Run.{best_end}
 use Rattle.qc_search.specs.Walk.{IsOpenBranch, sign_of}
 use Rattle.qc_search.proofs.BestLemmas.{at_most_of, not_late}
-use Rattle.qc_search.proofs.EarnedLemmas.{branchings-append, met_passed, met_taken, value_push}
+use Rattle.qc_search.proofs.EarnedLemmas.{aimed, branchings-append, met_passed, met_taken, value_push}
 
 -- ---- the incumbent
 
@@ -28,17 +28,19 @@ pub record IsSameBut (inst : InstanceView) (old mid : Progress) : Type 0 where
   pub bound : mid.bound ≡ old.bound
   pub branched : mid.branched ≡ old.branched
   pub limit : mid.limit ≡ old.limit
+  pub aim : mid.aim ≡ old.aim
   pub count : length old.incumbent ≡ length inst.tasks → length mid.incumbent ≡ length inst.tasks
 
 pub same_but : (inst : InstanceView) (way : Direction) (ds : List Decision) (old mid : Progress)
     → IsPassed inst ds old mid ⊎ IsTaken inst way ds old mid → IsSameBut inst old mid
 same_but inst way ds old mid (inl p) = subst (IsSameBut inst old) (sym p.same)
-    (record { path = refl; bound = refl; branched = refl; limit = refl; count = λ h. h })
+    (record { path = refl; bound = refl; branched = refl; limit = refl; aim = refl; count = λ h. h })
 same_but inst way ds old mid (inr t) = subst (IsSameBut inst old) (sym t.is) (record {
   path = refl;
   bound = refl;
   branched = refl;
   limit = refl;
+  aim = refl;
   count = λ h. length-map-range_with_len (slot_with ds t.begins) 0 (length inst.tasks);
 })
 
@@ -80,17 +82,26 @@ met_before inst way ds old mid (inr t) =
     subst (λ (c : Progress). IsAtMost c.incumbent_end old.incumbent_end) (sym t.is)
     (at_most_of _ old.incumbent_end t.sooner)
 
+-- so nodes are closed no later
+pub cut_before : (inst : InstanceView) (way : Direction) (ds : List Decision) (old mid : Progress)
+    → IsPassed inst ds old mid ⊎ IsTaken inst way ds old mid → IsAtMost (cutoff mid) (cutoff old)
+cut_before inst way ds old mid meets =
+    let same = (same_but inst way ds old mid meets).aim in
+    at_most_lesser (cutoff mid) old.aim old.incumbent_end
+    (subst (IsAtMost (cutoff mid)) same (lesser_first mid.aim mid.incumbent_end))
+    (second_through mid.aim mid.incumbent_end old.incumbent_end (met_before inst way ds old mid meets))
+
 -- ---- a leaf
 
 -- what makes a leaf a step, where the node was met between
 pub record IsLeafStep
     (inst : InstanceView) (way : Direction) (ds : List Decision) (shows : Leaf) (old mid : Progress) : Type 0 where
   pub holds : IsSome (leaf_value inst ds shows)
-  pub closed : IsClosable inst ds old.incumbent_end → IsClosedAt inst ds old.incumbent_end shows
-  pub given_up : ¬ IsClosable inst ds old.incumbent_end
-      → IsClashLate inst ds old.incumbent_end shows ⊎ ((old.branched ≡ old.limit) × IsGivenUp inst ds shows)
+  pub closed : IsClosable inst ds (cutoff old) → IsClosedAt inst ds (cutoff old) shows
+  pub given_up : ¬ IsClosable inst ds (cutoff old)
+      → IsClashLate inst ds (cutoff old) shows ⊎ ((old.branched ≡ old.limit) × IsGivenUp inst ds shows)
   pub meets : IsPassed inst ds old mid ⊎ IsTaken inst way ds old mid
-  pub late : old.branched < old.limit → IsAtMost mid.incumbent_end (sign_value inst ds (leaf shows))
+  pub late : old.branched < old.limit → IsAtMost (cutoff mid) (sign_value inst ds (leaf shows))
 
 module _ (home : InstanceView) (first : Option (List Slot)) (way : Direction) (only_up : home.turn ≡ Free → way ≡ Up)
     (ds : List Decision) (before : List TreeNode) where
@@ -150,7 +161,7 @@ module _ (home : InstanceView) (first : Option (List Slot)) (way : Direction) (o
 
   leaf_earned : (shows : Leaf) (old mid : Progress) (path : SmallVec ℕ) → IsProgress home first old before
       → IsLeafStep (seen home way) way ds shows old mid
-      → IsEarnedBehind home old.limit (best_end home first) before (node_at way ds (leaf shows))
+      → IsEarnedBehind home old.limit old.aim before (node_at way ds (leaf shows))
       × IsProgress home first (record mid {
         bound = lesser mid.bound (sign_value (seen home way) ds (leaf shows));
         path = path;
@@ -160,8 +171,8 @@ module _ (home : InstanceView) (first : Option (List Slot)) (way : Direction) (o
       let same = same_but (seen home way) way ds old mid s.meets in
       let value = sign_value (seen home way) ds (leaf shows) in (
         record {
-          u = old.incumbent_end;
-          known = now.known;
+          u = cutoff old;
+          known = aimed home (best_end home first) old.aim before old.incumbent_end now.known now.under;
           stands = (s.closed, λ open_node. spent_by (s.given_up open_node));
         },
         record {
@@ -169,21 +180,22 @@ module _ (home : InstanceView) (first : Option (List Slot)) (way : Direction) (o
           branched = omega (arith, now.branched, same.branched, branchings-append before (node ∷ []));
           bound = ap (λ (b : Bound). lesser b value) (same.bound ∙ now.bound) ∙ sym (value_push home before node);
           known = met_mid (leaf shows) old mid now.known s.meets;
+          under = subst (λ (a : Bound). IsAtMost a (best_end home first)) (sym same.aim) now.under;
           best = λ end e. kept_as home first mid _ (before ++ node ∷ []) (before ++ node ∷ []) end refl refl (λ n c. c)
               (kept_mid (leaf shows) old mid now.known.given now.best s.meets end e);
           late = λ left.
               let less : old.branched < old.limit = omega (arith, left, same.branched, same.limit) in
-              at_most_lesser mid.incumbent_end mid.bound value
-              (subst (IsAtMost mid.incumbent_end) (sym same.bound)
-              (at_most_through mid.incumbent_end old.incumbent_end old.bound
-              (met_before (seen home way) way ds old mid s.meets) (now.late less)))
+              at_most_lesser (cutoff mid) mid.bound value
+              (subst (IsAtMost (cutoff mid)) (sym same.bound)
+              (at_most_through (cutoff mid) (cutoff old) old.bound
+              (cut_before (seen home way) way ds old mid s.meets) (now.late less)))
               (s.late less);
         },
       )
     where
-      spent_by : IsClashLate (seen home way) ds old.incumbent_end shows
+      spent_by : IsClashLate (seen home way) ds (cutoff old) shows
           ⊎ ((old.branched ≡ old.limit) × IsGivenUp (seen home way) ds shows)
-          → IsClashLate (seen home way) ds old.incumbent_end shows
+          → IsClashLate (seen home way) ds (cutoff old) shows
           ⊎ ((branchings_in before ≡ old.limit) × IsGivenUp (seen home way) ds shows)
       spent_by (inl late) = inl late
       spent_by (inr g) = inr (sym now.branched ∙ g.0, g.1)
@@ -201,12 +213,13 @@ leaf_step inst way ds shows old mid path capacity soon s =
       holds = s.holds;
       along = record {
         limit = same.limit;
+        aim = same.aim;
         count = same.count;
         room = λ h. omega (arith, capacity, ap (λ (p : SmallVec ℕ). p.capacity) same.path, h);
         soon = λ h. soon (subst IsSoon (sym same.bound) h);
       };
       earned = λ home first before seen_so now.
-          subst (λ (i : InstanceView). IsEarnedBehind home old.limit (best_end home first) before (node_at way ds (leaf shows))
+          subst (λ (i : InstanceView). IsEarnedBehind home old.limit old.aim before (node_at way ds (leaf shows))
           × IsProgress home first (record mid {
             bound = lesser mid.bound (sign_value i ds (leaf shows));
             path = path;
@@ -218,7 +231,7 @@ leaf_step inst way ds shows old mid path capacity soon s =
 -- ---- a branching
 
 module _ (inst : InstanceView) (way : Direction) (ds : List Decision) (old : Progress)
-    (unclosed : ¬ IsClosable inst ds old.incumbent_end)
+    (unclosed : ¬ IsClosable inst ds (cutoff old))
     (left : old.branched < old.limit) where
   abbrev branched : Progress
   branched = record old { branched = old.branched + 1 }
@@ -227,13 +240,17 @@ module _ (inst : InstanceView) (way : Direction) (ds : List Decision) (old : Pro
       → IsPartOf home way inst
       → branchings_in (node_at way ds sign ∷ []) ≡ 1
       → sign_value (seen home way) ds sign ≡ Never
-      → MayStand (seen home way) ds old.incumbent_end (branchings_in before) old.limit sign
+      → MayStand (seen home way) ds (cutoff old) (branchings_in before) old.limit sign
       → IsProgress home first old before
-      → IsEarnedBehind home old.limit (best_end home first) before (node_at way ds sign)
+      → IsEarnedBehind home old.limit old.aim before (node_at way ds sign)
       × IsProgress home first branched (before ++ node_at way ds sign ∷ [])
   branch_earned sign home first before seen_so one worthless stands now =
       let node = node_at way ds sign in (
-        record { u = old.incumbent_end; known = now.known; stands = stands },
+        record {
+          u = cutoff old;
+          known = aimed home (best_end home first) old.aim before old.incumbent_end now.known now.under;
+          stands = stands;
+        },
         record {
           few = omega (arith, left);
           branched = omega (arith, now.branched, branchings-append before (node ∷ []), one);
@@ -241,16 +258,17 @@ module _ (inst : InstanceView) (way : Direction) (ds : List Decision) (old : Pro
               ∙ ap (lesser (value_in home before)) (sym worthless) ∙ sym (value_push home before node);
           known = met_passed home (best_end home first) before old.incumbent_end now.known node (λ end by. absurd (unclosed (complete
               (subst (λ (i : InstanceView). IsComplete i ds) seen_so.same by.solved.complete))));
+          under = now.under;
           best = λ end e. kept_on home first old branched before node end refl refl (now.best end e);
           late = λ more. now.late left;
         },
       )
 
   along : IsAlong inst old branched
-  along = record { limit = refl; count = λ h. h; room = λ h. h; soon = λ h. h }
+  along = record { limit = refl; aim = refl; count = λ h. h; room = λ h. h; soon = λ h. h }
 
-  stands_open : (home : InstanceView) → IsPartOf home way inst → ¬ IsClosable (seen home way) ds old.incumbent_end
-  stands_open home seen_so = subst (λ (i : InstanceView). ¬ IsClosable i ds old.incumbent_end) (sym seen_so.same) unclosed
+  stands_open : (home : InstanceView) → IsPartOf home way inst → ¬ IsClosable (seen home way) ds (cutoff old)
+  stands_open home seen_so = subst (λ (i : InstanceView). ¬ IsClosable i ds (cutoff old)) (sym seen_so.same) unclosed
 
   pub branch_step : (branch : Branch) → IsOpenBranch inst ds branch
       → IsStep inst way ds (sign_of branch) old branched

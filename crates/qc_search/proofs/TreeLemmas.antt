@@ -1,5 +1,5 @@
 -- The lines of a whole tree, and where they are cut.
-use Rattle.std.proofs.Common.{◌≡◌, ℕ, ◌≤◌, List, [], ◌∷◌, ◌++◌, Option, Result, Ok, Err, refl, ap, ap₂, sym, subst, ◌∙◌, append_assoc, arith, IsErr, OnOk}
+use Rattle.std.proofs.Common.{◌≡◌, ℕ, ◌≤◌, List, [], ◌∷◌, ◌++◌, Option, Result, Ok, Err, refl, ap, ap₂, sym, subst, subst₂, ◌∙◌, append_assoc, arith, IsErr, OnOk}
 use Rattle.std.proofs.lemmas.Bool.{false≢true}
 use Rattle.std.proofs.lemmas.List.{append-nil}
 use Rattle.std.specs.Prelude.{⊤}
@@ -16,7 +16,6 @@ use Rattle.qc_model.proofs.TurnLemmas.{two_turns}
 use Rattle.qc_tree.proofs.NodeLemmas.{all_given_up, none_branched}
 use Rattle.qc_search.specs.declared.progress.Progress.{Progress}
 use Rattle.qc_search.specs.Earned.{TreeNode, part_nodes, tree_nodes}
-use Rattle.qc_search.specs.Run.{best_end}
 use Rattle.qc_search.specs.Progress.{AreEarned, IsPartOf, IsProgress, WritesNodes, WritesTree}
 use Rattle.qc_search.proofs.EarnedLemmas.{branched_in, branchings-append, earned_then, value-append, valued_in}
 use Rattle.qc_search.proofs.NodesLemmas.{all_up}
@@ -70,6 +69,7 @@ by_fault end (Err fault) is w = record {
   earned = tt;
   progress = tt;
   limit = tt;
+  aim = tt;
 }
 
 abbrev title : List ℕ
@@ -113,6 +113,7 @@ module _ (home : InstanceView) (first : Option (List Slot)) (before : View) (old
     earned = tt;
     progress = tt;
     limit = tt;
+    aim = tt;
   }
 
   -- ---- where cranes go one way
@@ -174,7 +175,7 @@ module _ (home : InstanceView) (first : Option (List Slot)) (before : View) (old
         abbrev up_nodes : List TreeNode
         up_nodes = part_nodes Up up.nodes
 
-        up_told : AreEarned home old.limit (best_end home first) [] up_nodes × IsProgress home first mid up_nodes
+        up_told : AreEarned home old.limit old.aim [] up_nodes × IsProgress home first mid up_nodes
         up_told = up.comes.earned home first [] (up_part home) begun
 
         -- the down part, whole or cut, makes a tree
@@ -217,9 +218,11 @@ module _ (home : InstanceView) (first : Option (List Slot)) (before : View) (old
             let tree = tree_of up.nodes down.nodes in
             let front = (title ++ (up_line ++ a)) ++ (down_line ++ b) in
             let told = down.comes.earned home first up_nodes (down_part home one) up_told.1 in
-            let second = subst (λ (n : ℕ). AreEarned home n (best_end home first) up_nodes (part_nodes Down down.nodes)) up.comes.along.limit told.0 in
-            let all = earned_then home old.limit (best_end home first) [] up_nodes (part_nodes Down down.nodes) up_told.0 second in
+            let second = subst₂ (λ (n : ℕ) (a : Bound). AreEarned home n a up_nodes (part_nodes Down down.nodes)) up.comes.along.limit
+            up.comes.along.aim told.0 in
+            let all = earned_then home old.limit old.aim [] up_nodes (part_nodes Down down.nodes) up_told.0 second in
             let limit : new.limit ≡ old.limit = down.comes.along.limit ∙ up.comes.along.limit in
+            let aim : new.aim ≡ old.aim = down.comes.along.aim ∙ up.comes.along.aim in
             let text : front ++ whole_line (line.End new.branched new.bound) [] ≡ tree_text home tree =
             ap₂ (λ (n : ℕ) (v : Bound). front ++ whole_line (line.End n v) []) (branched_is home first tree new told.1)
             (bound_is home first tree new told.1)
@@ -231,9 +234,10 @@ module _ (home : InstanceView) (first : Option (List Slot)) (before : View) (old
                   (writes_then before downed after front (whole_line (line.End new.branched new.bound) []) result
                   (writes_then before upped downed (title ++ (up_line ++ a)) (down_line ++ b) (Ok tt) up_written down.writes)
                   last);
-              earned = given result (AreEarned home old.limit (best_end home first) [] (tree_nodes tree)) all;
+              earned = given result (AreEarned home old.limit old.aim [] (tree_nodes tree)) all;
               progress = given result (IsProgress home first new (tree_nodes tree)) told.1;
               limit = given result (new.limit ≡ old.limit) limit;
+              aim = given result (new.aim ≡ old.aim) aim;
             }
 
   -- ---- where cranes go as they like
@@ -283,9 +287,10 @@ module _ (home : InstanceView) (first : Option (List Slot)) (before : View) (old
           let tree = tree_of up.nodes [] in
           let nodes : part_nodes Up up.nodes ≡ tree_nodes tree = sym (append-nil (part_nodes Up up.nodes)) in
           let told = up.comes.earned home first [] (up_part home) begun in
-          let all = subst (AreEarned home old.limit (best_end home first) []) nodes told.0 in
+          let all = subst (AreEarned home old.limit old.aim []) nodes told.0 in
           let now = subst (IsProgress home first new) nodes told.1 in
           let limit : new.limit ≡ old.limit = up.comes.along.limit in
+          let aim : new.aim ≡ old.aim = up.comes.along.aim in
           let text : free_title ++ a ++ whole_line (line.End new.branched new.bound) [] ≡ tree_text home tree =
           ap₂ (λ (n : ℕ) (v : Bound). free_title ++ a ++ whole_line (line.End n v) []) (branched_is home first tree new now)
           (bound_is home first tree new now)
@@ -297,7 +302,8 @@ module _ (home : InstanceView) (first : Option (List Slot)) (before : View) (old
                 (writes_then before parted after (free_title ++ a) (whole_line (line.End new.branched new.bound) []) result
                 (writes_then before titled parted free_title a (Ok tt) head up.writes)
                 last);
-            earned = given result (AreEarned home old.limit (best_end home first) [] (tree_nodes tree)) all;
+            earned = given result (AreEarned home old.limit old.aim [] (tree_nodes tree)) all;
             progress = given result (IsProgress home first new (tree_nodes tree)) now;
             limit = given result (new.limit ≡ old.limit) limit;
+            aim = given result (new.aim ≡ old.aim) aim;
           }

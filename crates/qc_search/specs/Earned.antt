@@ -39,8 +39,8 @@ pub record IsSolvedBy (inst : InstanceView) (end : ℕ) (node : TreeNode) : Type
   pub solved : IsSolved inst node starts
   pub ends : end ≡ solved_end inst node starts
 
--- the end of the incumbent behind these nodes: the least of the end that the search begins with, which is that of a given
--- schedule or Never, and of the ends of the complete nodes with a solution
+-- the least of a first end, as that of the schedule that the search begins with, or its aim, and of the ends of those of
+-- these nodes that are complete and have a solution
 pub record IsKnownEnd (inst : InstanceView) (first : Bound) (nodes : List TreeNode) (known : Bound) : Type 0 where
   pub reached : (end : ℕ) → known ≡ Least end → (first ≡ Least end) ⊎ Any (IsSolvedBy inst end) nodes
   pub given : IsAtMost known first
@@ -93,7 +93,7 @@ pub record IsClashLate (inst : InstanceView) (ds : List Decision) (u : Bound) (s
   pub is : shows ≡ packed tasks
   pub late : ShowsLate inst ds u shows
 
--- what may stand at a node, u being the end of the incumbent before it, and so many branchings before it written:
+-- what may stand at a node, u being the end at which nodes are closed, and so many branchings before it written:
 -- a branching only where u doesn't close the node; the leaf that closes it where u does; and else packed tasks that
 -- show an end of at least u, or, once all branchings are spent, a leaf of any kind that shows enough
 abbrev pub MayStand : InstanceView → List Decision → Bound → (branched most : ℕ) → Sign → Type 0
@@ -102,17 +102,18 @@ MayStand inst ds u branched most (leaf shows) =
     × (¬ (IsClosable inst ds u) → IsClashLate inst ds u shows ⊎ ((branched ≡ most) × IsGivenUp inst ds shows))
 MayStand inst ds u branched most branching = ¬ (IsClosable inst ds u)
 
--- the node is justified behind those before it in the file, where the search begins with this end
+-- the node is justified behind those before it in the file, where the search aims at this end: u is the least of the aim
+-- and of the ends that were met
 pub record IsEarnedBehind
-    (inst : InstanceView) (most : ℕ) (first : Bound) (before : List TreeNode) (node : TreeNode) : Type 0 where
+    (inst : InstanceView) (most : ℕ) (aim : Bound) (before : List TreeNode) (node : TreeNode) : Type 0 where
   pub u : Bound
-  pub known : IsKnownEnd inst first before u
+  pub known : IsKnownEnd inst aim before u
   pub stands : MayStand (seen inst node.way) node.decisions u (branchings_in before) most node.sign
 
 -- the tree has at most so many branchings, and each of its nodes is justified by what the search knew when it wrote the
 -- line
-pub record IsEarned (inst : InstanceView) (most : ℕ) (first : Bound) (tree : Tree) : Type 0 where
+pub record IsEarned (inst : InstanceView) (most : ℕ) (aim : Bound) (tree : Tree) : Type 0 where
   pub few : tree_branchings tree ≤ most
   pub each :
       (before : List TreeNode) (node : TreeNode) (behind : List TreeNode)
-      → tree_nodes tree ≡ before ++ node ∷ behind → IsEarnedBehind inst most first before node
+      → tree_nodes tree ≡ before ++ node ∷ behind → IsEarnedBehind inst most aim before node

@@ -4,7 +4,7 @@ use Rattle.qc_gantt.specs.Plan.{plan_in}
 use Rattle.qc_gantt.specs.PlanText.{plan_text}
 use Rattle.qc_close.specs.Model.{Slot, InstanceView}
 use Rattle.qc_tree.specs.Trees.{Tree, tree_branchings, tree_value}
-use Rattle.qc_search.specs.Run.{DoneView, IsOffered, IsRun, IsSound, SearchView}
+use Rattle.qc_search.specs.Run.{DoneView, IsOffered, IsRun, IsSound, SearchView, search_from}
 
 -- a search was offered this schedule, or none, and begins with that in place of this
 abbrev pub WasOffered : InstanceView → Option (List Slot) → (before after : Option (List Slot)) → Type 0
@@ -14,7 +14,7 @@ WasOffered inst (Some given) before after = IsOffered inst given before after
 -- what a search came to: its tree is one of the instance that is earned, its schedule, if any, a best one that it knows,
 -- and what holds of each search
 pub record IsOutcome (search : SearchView) (tree : Tree) (done : DoneView) : Type 0 where
-  pub run : IsRun search.inst search.nodes search.first tree done.best done.kind
+  pub run : IsRun search.inst search.nodes search.first search.aim tree done.best done.kind
   pub bound : done.bound ≡ tree_value search.inst tree
   pub branched : done.branched ≡ tree_branchings tree
   pub sound : IsSound search done
@@ -28,7 +28,7 @@ pub record IsFound (inst : InstanceView) (nodes : ℕ) (own : Option (List Slot)
   pub own_offered : WasOffered inst own None own_first
   pub first : Option (List Slot)
   pub offered : WasOffered inst found own_first first
-  pub came : IsOutcome (record { inst = inst; nodes = nodes; first = first }) tree done
+  pub came : IsOutcome (search_from inst nodes first) tree done
 
 -- the text of the schedule's plan is read as this schedule
 abbrev pub IsReread : InstanceView → List Slot → Type 0

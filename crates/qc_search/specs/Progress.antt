@@ -6,7 +6,7 @@ use Rattle.qc_io.specs.Outside.{View}
 use Rattle.qc_io.specs.Writes.{Writes}
 use Rattle.qc_num.specs.declared.bound.Bound.{Bound}
 use Rattle.qc_num.specs.declared.bound.Bound.TheVariants.{Least, Never}
-use Rattle.qc_num.specs.Bounds.{IsAtMost, least_bound}
+use Rattle.qc_num.specs.Bounds.{IsAtMost, least_bound, lesser}
 use Rattle.qc_num.specs.Paths.{HasRoom}
 use Rattle.smallvec.specs.SmallVec.{SmallVec}
 use Rattle.qc_dist.specs.Node.{Node as StartsNode}
@@ -24,11 +24,16 @@ begun limit incumbent path = record {
   limit = limit;
   branched = 0;
   bound = Never;
+  aim = Never;
   incumbent_end = Never;
   way = Up;
   incumbent = incumbent;
   path = path;
 }
+
+-- the end at which a node is closed: the lesser of the aim and of the incumbent's end
+abbrev pub cutoff : Progress → Bound
+cutoff now = lesser now.aim now.incumbent_end
 
 -- the value of a node's leaf; Never of a branching
 abbrev pub value_at : InstanceView → TreeNode → Bound
@@ -65,24 +70,26 @@ pub record IsProgress (home : InstanceView) (first : Option (List Slot)) (now : 
   pub branched : now.branched ≡ branchings_in nodes
   pub bound : now.bound ≡ value_in home nodes
   pub known : IsKnownEnd home (best_end home first) nodes now.incumbent_end
+  pub under : IsAtMost now.aim (best_end home first)
   pub best : (end : ℕ) → now.incumbent_end ≡ Least end → IsKept home first now nodes end
-  -- no leaf shows an end before that of the incumbent while branchings are left
-  pub late : now.branched < now.limit → IsAtMost now.incumbent_end now.bound
+  -- no leaf shows an end before that at which nodes are closed while branchings are left
+  pub late : now.branched < now.limit → IsAtMost (cutoff now) now.bound
 
 -- each node is earned behind those before it
 abbrev pub AreEarned : InstanceView → ℕ → Bound → List TreeNode → List TreeNode → Type 0
-AreEarned home most first before [] = Unit {0}
-AreEarned home most first before (node ∷ nodes) =
-    IsEarnedBehind home most first before node × AreEarned home most first (before ++ node ∷ []) nodes
+AreEarned home most aim before [] = Unit {0}
+AreEarned home most aim before (node ∷ nodes) =
+    IsEarnedBehind home most aim before node × AreEarned home most aim (before ++ node ∷ []) nodes
 
 -- a value is an end that a schedule may have
 abbrev pub IsSoon : Bound → Type 0
 IsSoon (Least value) = value ≤ most_start
 IsSoon Never = Unit {0}
 
--- what is the same all along: the limit, the room, and how great a value can be
+-- what is the same all along: the limit, the aim, the room, and how great a value can be
 pub record IsAlong (inst : InstanceView) (old new : Progress) : Type 0 where
   pub limit : new.limit ≡ old.limit
+  pub aim : new.aim ≡ old.aim
   pub count : length old.incumbent ≡ length inst.tasks → length new.incumbent ≡ length inst.tasks
   pub room : HasRoom most_tasks old.path → HasRoom most_tasks new.path
   pub soon : IsSoon old.bound → IsSoon new.bound
@@ -100,7 +107,7 @@ pub record IsStep
   pub earned :
       (home : InstanceView) (first : Option (List Slot)) (before : List TreeNode) → IsPartOf home way inst
       → IsProgress home first old before
-      → IsEarnedBehind home old.limit (best_end home first) before (node_at way ds sign)
+      → IsEarnedBehind home old.limit old.aim before (node_at way ds sign)
       × IsProgress home first new (before ++ node_at way ds sign ∷ [])
 
 -- nodes of a part lead from one progress to another, and each is earned
@@ -109,7 +116,7 @@ pub record Comes (inst : InstanceView) (way : Direction) (nodes : List Node) (ol
   pub earned :
       (home : InstanceView) (first : Option (List Slot)) (before : List TreeNode) → IsPartOf home way inst
       → IsProgress home first old before
-      → AreEarned home old.limit (best_end home first) before (part_nodes way nodes)
+      → AreEarned home old.limit old.aim before (part_nodes way nodes)
       × IsProgress home first new (before ++ part_nodes way nodes)
 
 -- a text and the lines of nodes were written, or a front part of them: of the nodes that were due these came and leave
@@ -132,9 +139,10 @@ pub record WritesTree
   pub tree : Tree
   pub is_tree : IsTree home tree
   pub writes : Writes before after (tree_text home tree) result
-  pub earned : OnOk result (AreEarned home old.limit (best_end home first) [] (tree_nodes tree))
+  pub earned : OnOk result (AreEarned home old.limit old.aim [] (tree_nodes tree))
   pub progress : OnOk result (IsProgress home first new (tree_nodes tree))
   pub limit : OnOk result (new.limit ≡ old.limit)
+  pub aim : OnOk result (new.aim ≡ old.aim)
 
 -- the answer of a call that writes, without its value
 abbrev pub emptied : {A : Type 0} → Result A WriteFault → Result ⊤ WriteFault
@@ -225,11 +233,11 @@ pub record IsTightened (inst : InstanceView) (old new : List Slot) (end : ℕ) :
   pub ends : end ≡ last_end inst.tasks begins
   pub soon : end ≤ most_start
 
--- the tight form of a schedule, as it is seen this way, was made the incumbent
+-- the tight form of a schedule, as it is seen this way, was made the incumbent, and its end the aim
 pub record IsBegunWith (home : InstanceView) (given : List Slot) (way : Direction) (old now : Progress) : Type 0 where
   pub end : ℕ
   pub tightened : IsTightened (seen home way) (seen_schedule home given way) now.incumbent end
-  pub is : now ≡ record old { incumbent_end = Least end; way = way; incumbent = now.incumbent }
+  pub is : now ≡ record old { aim = Least end; incumbent_end = Least end; way = way; incumbent = now.incumbent }
 
 -- the incumbent as it is answered, if there is one
 abbrev pub known_best : InstanceView → Progress → Option (List Slot)

@@ -1,5 +1,5 @@
 -- public: what a search comes to: a tree that is earned, the best schedule that it knows, and how both stand to each other.
-use Rattle.std.specs.Prelude.{◌≡◌, ◌≢◌, ℕ, ◌+◌, ◌*◌, ◌^◌, ◌≤◌, ◌⊎◌, max, nat_le, if◌then◌else◌, List, length, Option, None, Some, IfSome, IsSomeAnd, MatchOption, Contains, option_map}
+use Rattle.std.specs.Prelude.{◌≡◌, ℕ, ◌+◌, ◌*◌, ◌^◌, ◌≤◌, ◌⊎◌, max, nat_le, if◌then◌else◌, List, length, Option, None, Some, IfSome, IsSomeAnd, MatchOption, Contains, option_map}
 use Rattle.std.specs.Io.KnownBytes.{append_known}
 use Rattle.qc_io.specs.Outside.{GrewByPart}
 use Rattle.qc_num.specs.declared.bound.Bound.{Bound}
@@ -43,19 +43,21 @@ outcome Never met = Infeasible
 outcome (Least value) Never = Budget
 outcome (Least value) (Least end) = if nat_le end value then Optimal else Budget
 
--- a tree that is earned with so many branchings by a search that begins with this tight schedule, or with none, the best
--- schedule that is known behind it, if any is, and its outcome
-pub record IsRun (inst : InstanceView) (most : ℕ) (first : Option (List Slot)) (tree : Tree) (best : Option (List Slot))
-    (kind : Kind) : Type 0 where
+-- a tree that is earned with so many branchings by a search that begins with this tight schedule, or with none, and aims
+-- at this end, the best schedule that is known behind it, if any is, and its outcome
+pub record IsRun (inst : InstanceView) (most : ℕ) (first : Option (List Slot)) (aim : Bound) (tree : Tree)
+    (best : Option (List Slot)) (kind : Kind) : Type 0 where
   pub tight : IfSome first (IsTight inst)
   pub is_tree : IsTree inst tree
-  pub earned : IsEarned inst most (best_end inst first) tree
+  -- the aim is no later than the end of what it begins with; at the aim its nodes are closed
+  pub under : IsAtMost aim (best_end inst first)
+  pub earned : IsEarned inst most aim tree
   pub known : Bound
   pub ends : IsKnownEnd inst (best_end inst first) (tree_nodes tree) known
   pub is_best : MatchOption best (known ≡ Never) (IsBestKnown inst first tree)
   pub is_kind : kind ≡ outcome (tree_value inst tree) known
-  -- under Budget all branchings are spent
-  pub spent : kind ≡ Budget → tree_branchings tree ≡ most
+  -- under Budget all branchings are spent, or the tree shows the aim
+  pub spent : kind ≡ Budget → (tree_branchings tree ≡ most) ⊎ IsAtMost aim (tree_value inst tree)
 
 -- how many parts a tree has
 abbrev pub parts_by : Turn → ℕ
@@ -67,11 +69,16 @@ abbrev pub branching_limit : InstanceView → ℕ
 branching_limit inst = parts_by inst.turn * max 2 (length inst.cranes) ^ (length inst.tasks + order_pairs inst)
 
 -- a search that isn't run yet: for this instance, with so many branchings. It begins with the tight form of a schedule that
--- it was offered, or with none
+-- it was offered, or with none, and aims at an end: a node that can't end before it is closed
 pub record SearchView : Type 0 where
   pub inst : InstanceView
   pub nodes : ℕ
   pub first : Option (List Slot)
+  pub aim : Bound
+
+-- one that aims at the end of what it begins with
+abbrev pub search_from : InstanceView → (nodes : ℕ) → Option (List Slot) → SearchView
+search_from inst nodes first = record { inst = inst; nodes = nodes; first = first; aim = best_end inst first }
 
 -- what a search came to
 pub record DoneView : Type 0 where
@@ -111,18 +118,18 @@ pub record IsSound (search : SearchView) (done : DoneView) : Type 0 where
   pub soon : IfSome done.best (λ sched. ends search.inst sched ≤ most_start)
   -- the outcome is that of the bound and of the best schedule's end
   pub kind : done.kind ≡ outcome done.bound (best_end search.inst done.best)
-  -- under Budget exactly as many branchings are written as may be
-  pub spent : done.kind ≡ Budget → done.branched ≡ search.nodes
+  -- under Budget exactly as many branchings are written as may be, or the aim is shown
+  pub spent : done.kind ≡ Budget → (done.branched ≡ search.nodes) ⊎ IsAtMost search.aim done.bound
   -- the schedule that it began with is told, and the best one is no worse
   pub given : done.given ≡ option_map (ends search.inst) search.first
   pub no_later : IsAtMost (best_end search.inst done.best) (best_end search.inst search.first)
-  -- with so many branchings the search comes to a decision
-  pub decides : branching_limit search.inst ≤ search.nodes → done.kind ≢ Budget
+  -- with so many branchings the search comes to a decision, or shows the aim
+  pub decides : branching_limit search.inst ≤ search.nodes → done.kind ≡ Budget → IsAtMost search.aim done.bound
 
 -- the bytes grew by the text of a tree that is a run, and what is told is told of that tree
 pub record IsSearched (search : SearchView) (before after : Option (List ℕ)) (done : DoneView) : Type 0 where
   pub tree : Tree
-  pub run : IsRun search.inst search.nodes search.first tree done.best done.kind
+  pub run : IsRun search.inst search.nodes search.first search.aim tree done.best done.kind
   pub bound : done.bound ≡ tree_value search.inst tree
   pub branched : done.branched ≡ tree_branchings tree
   pub written : after ≡ append_known before (tree_text search.inst tree)

@@ -108,7 +108,7 @@ fn next_pair(starts: &Starts, best: Bound) -> Branch
 }
 
 /// The lowest unassigned task; where there is none, a pair whose order is open. What it is best to branch on is told by
-/// the best end that is known.
+/// the end at which nodes are closed.
 pub(crate) fn pick(starts: &Starts, best: Bound) -> Branch
     requires starts { HasStarts starts.now.inst starts.now.decisions }
     requires undecided { ¬ IsComplete starts.now.inst starts.now.decisions }

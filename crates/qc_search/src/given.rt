@@ -3,10 +3,11 @@
 //! the earliest starts with these.
 ghost use Rattle.std.specs.Prelude.{◌≡◌, ℕ, ◌<◌, ◌≤◌, [], ◌∷◌, None, length, slice_index_or};
 ghost use Rattle.qc_close.specs.Model.{Assign, GoesBy, IsApart, Valid, pair_of, IsJudgeable, Agrees, Conflicts, IsSettled, assigned, most_start, crane_of, start_of, seen_schedule};
+ghost use Rattle.qc_num.specs.Bounds.{lesser};
 ghost use Rattle.qc_starts.specs.Seen.{AreAssigned};
 ghost use Rattle.qc_starts.specs.Tight.{IsSeenSo, order_in};
 ghost use Rattle.qc_search.specs.Progress.{AreOrdered, IsBegun, IsBegunWith, IsTightened, known_best};
-ghost use Rattle.qc_search.specs.Run.{IsOffered};
+ghost use Rattle.qc_search.specs.Run.{IsOffered, best_end};
 
 use crate::best::{improves, keep};
 use crate::progress::Progress;
@@ -175,7 +176,7 @@ fn see(inst: &Instance, way: Direction, sched: &mut Schedule)
     }
 }
 
-/// Makes the tight form of a schedule that cranes may follow the incumbent, as it is seen that way.
+/// Makes the tight form of a schedule that cranes may follow the incumbent, as it is seen that way, and aims at its end.
 fn begin_with(given: &Schedule, way: Direction, roots: &mut Roots, progress: &mut Progress)
     requires judgeable { IsJudgeable roots.old given.now }
     requires seen { IsSeenSo roots.old.turn roots.old given.now way }
@@ -188,18 +189,20 @@ fn begin_with(given: &Schedule, way: Direction, roots: &mut Roots, progress: &mu
     copy_slots(given, tasks, &mut progress.incumbent);
     see(roots.instance(), way, &mut progress.incumbent);
     let end = roots.tighten(way, &mut progress.incumbent);
+    progress.aim = Bound::Least(end);
     progress.incumbent_end = Bound::Least(end);
     progress.way = way;
 }
 
 /// Begins with the tight form of a schedule that cranes may follow, as it is seen that way, where the schedule ends
-/// before the incumbent.
+/// before the incumbent. What it aims at is the incumbent's end.
 pub(crate) fn offer(given: &Schedule, way: Direction, roots: &mut Roots, progress: &mut Progress)
     requires judgeable { IsJudgeable roots.old given.now }
     requires seen { IsSeenSo roots.old.turn roots.old given.now way }
     requires begun { IsBegun roots.old progress.old }
     ensures stays { roots.new ≡ roots.old }
     ensures limit { progress.new.limit ≡ progress.old.limit }
+    ensures aim { progress.new.aim ≡ best_end roots.old (known_best roots.old progress.new) }
     ensures begun { IsBegun roots.old progress.new }
     ensures offered { IsOffered roots.old given.now (known_best roots.old progress.old)
         (known_best roots.old progress.new) }
@@ -207,5 +210,17 @@ pub(crate) fn offer(given: &Schedule, way: Direction, roots: &mut Roots, progres
     let end = ends(roots.instance(), given);
     if improves(end, progress.incumbent_end) {
         begin_with(given, way, roots, progress);
+    } else {
+        progress.aim = progress.incumbent_end;
     }
+}
+
+/// Aims at an end where that comes before what is aimed at.
+pub(crate) fn aim_at(aim: Bound, _roots: &Roots, progress: &mut Progress)
+    requires { IsBegun _roots.now progress.old }
+    ensures is { progress.new ≡ record progress.old { aim = lesser progress.old.aim aim } }
+    ensures begun { IsBegun _roots.now progress.new }
+{
+    let lower = progress.aim.min(aim);
+    progress.aim = lower;
 }

@@ -7,6 +7,9 @@
 //! node met, no later; no schedule ends before its bound. A sink that fails holds a front part of a tree.
 //! Want of memory is answered by `Search::open` alone.
 //!
+//! It may aim at an end below what it begins with, at which nodes are then closed: its tree shows that in fewer
+//! branchings.
+//!
 //! `store_tree` and `store_best` put a search into files: its tree, and then the plan of the best
 //! schedule that it knows, each whole or the file as it was, and the plan read again as that
 //! schedule. With the word for how a search came out, and how much effort a first plan gets.

@@ -8,7 +8,7 @@ ghost use Rattle.qc_close.specs.Model.{IsClosable, leaf_value, HasStarts};
 ghost use Rattle.qc_num.specs.Bounds.{lesser};
 ghost use Rattle.qc_tree.specs.Trees.{leaf_text};
 ghost use Rattle.qc_search.specs.Lines.{IsLeafBy, IsWritable, leaf_of};
-ghost use Rattle.qc_search.specs.Progress.{IsMet, IsPassed, IsSoon, IsTaken, Visits, emptied};
+ghost use Rattle.qc_search.specs.Progress.{IsMet, IsPassed, IsSoon, IsTaken, Visits, cutoff, emptied};
 
 use crate::best::meet;
 use crate::choice::pick;
@@ -41,7 +41,7 @@ fn value_of(leaf: LeafKind, starts: &Starts) -> Bound
 /// schedule that could improve on it.
 fn meet_closed(leaf: LeafKind, starts: &Starts, way: Direction, progress: &mut Progress) -> Bound
     requires count { length progress.old.incumbent ≡ length starts.now.inst.tasks }
-    requires leaf { IsClosedBy starts.now.inst starts.now.decisions progress.old.incumbent_end leaf
+    requires leaf { IsClosedBy starts.now.inst starts.now.decisions (cutoff progress.old) leaf
         progress.old.path.items }
     ensures meets { IsPassed starts.now.inst starts.now.decisions progress.old progress.new
         ⊎ IsTaken starts.now.inst way starts.now.decisions progress.old progress.new }
@@ -91,7 +91,7 @@ fn put_closed<K: Sink>(
     sink: &mut K,
 ) -> Result<Option<Decision>, WriteFault>
     requires met { IsMet starts.now progress.old }
-    requires leaf { IsClosedBy starts.now.inst starts.now.decisions progress.old.incumbent_end leaf
+    requires leaf { IsClosedBy starts.now.inst starts.now.decisions (cutoff progress.old) leaf
         progress.old.path.items }
     ensures { Visits (K.view sink.old) (K.view sink.new) starts.now way progress.old progress.new result }
 {
@@ -108,7 +108,7 @@ fn put_spent<K: Sink>(
     sink: &mut K,
 ) -> Result<Option<Decision>, WriteFault>
     requires met { IsMet starts.now progress.old }
-    requires open { ¬ IsClosable starts.now.inst starts.now.decisions progress.old.incumbent_end }
+    requires open { ¬ IsClosable starts.now.inst starts.now.decisions (cutoff progress.old) }
     requires spent { progress.old.branched ≡ progress.old.limit }
     requires leaf { IsSpentBy starts.now.inst starts.now.decisions leaf progress.old.path.items }
     ensures { Visits (K.view sink.old) (K.view sink.new) starts.now way progress.old progress.new result }
@@ -126,11 +126,11 @@ fn put_branching<K: Sink>(
 ) -> Result<Option<Decision>, WriteFault>
     requires met { IsMet starts.now progress.old }
     requires starts { HasStarts starts.now.inst starts.now.decisions }
-    requires open { ¬ IsClosable starts.now.inst starts.now.decisions progress.old.incumbent_end }
+    requires open { ¬ IsClosable starts.now.inst starts.now.decisions (cutoff progress.old) }
     requires left { progress.old.branched < progress.old.limit }
     ensures { Visits (K.view sink.old) (K.view sink.new) starts.now way progress.old progress.new result }
 {
-    let branch = pick(starts, progress.incumbent_end);
+    let branch = pick(starts, progress.cutoff());
     progress.branched += 1;
     put_branch(branch, &progress.path, sink)?;
     Ok(Some(branch.first_child()))
@@ -148,7 +148,8 @@ pub(crate) fn visit<K: Sink>(
     requires crew { IsCrewOf crew.now starts.now.inst starts.now.decisions }
     ensures { Visits (K.view sink.old) (K.view sink.new) starts.now way progress.old progress.new result }
 {
-    if let Some(leaf) = close(starts, crew, progress.incumbent_end, &mut progress.path) {
+    let cutoff = progress.cutoff();
+    if let Some(leaf) = close(starts, crew, cutoff, &mut progress.path) {
         return put_closed(leaf, starts, way, progress, sink);
     }
     let stuck = starts.stuck();

@@ -1,6 +1,6 @@
 //! How far a search has come.
 ghost use Rattle.std.specs.Prelude.{◌≡◌};
-ghost use Rattle.qc_search.specs.Progress.{begun};
+ghost use Rattle.qc_search.specs.Progress.{begun, cutoff};
 
 use qc_model::{Direction, Schedule};
 use qc_num::{Bound, Path};
@@ -14,6 +14,8 @@ pub(crate) struct Progress {
     pub(crate) branched: u32,
     /// The lower bound so far: the least value of the leaves written.
     pub(crate) bound: Bound,
+    /// The end that it aims at: what can't end before it isn't searched.
+    pub(crate) aim: Bound,
     /// The end of the incumbent; `Never` where there is none yet.
     pub(crate) incumbent_end: Bound,
     /// The part in which the incumbent was met, or to which a given one belongs.
@@ -24,6 +26,15 @@ pub(crate) struct Progress {
     pub(crate) path: Path,
 }
 
+impl Progress {
+    /// The end at which a node is closed: the lesser of the aim and of the incumbent's end.
+    pub(crate) fn cutoff(&self) -> Bound
+        ensures { result ≡ cutoff self.now }
+    {
+        self.aim.min(self.incumbent_end)
+    }
+}
+
 /// The progress before the first line, with room for an incumbent and for a leaf's tasks.
 pub(crate) fn first_progress(incumbent: Schedule, path: Path, limit: u32) -> Progress
     ensures { result ≡ begun limit incumbent path }
@@ -32,6 +43,7 @@ pub(crate) fn first_progress(incumbent: Schedule, path: Path, limit: u32) -> Pro
         limit,
         branched: 0,
         bound: Bound::Never,
+        aim: Bound::Never,
         incumbent_end: Bound::Never,
         way: Direction::Up,
         incumbent,

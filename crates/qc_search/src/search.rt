@@ -4,15 +4,16 @@ ghost use Rattle.qc_io.specs.Outside.{beside};
 ghost use Rattle.qc_io.specs.Writes.{Counts};
 ghost use Rattle.qc_close.specs.Model.{IsJudgeable, most_branchings, ends};
 ghost use Rattle.qc_num.specs.declared.bound.Bound.TheVariants.{Least};
+ghost use Rattle.qc_num.specs.Bounds.{lesser};
 ghost use Rattle.qc_search.specs.Progress.{bound_end, shown_best};
-ghost use Rattle.qc_search.specs.Run.{outcome, SearchView, IsCutOff, IsOffered, IsSearched, IsSound};
+ghost use Rattle.qc_search.specs.Run.{outcome, SearchView, IsCutOff, IsOffered, IsSearched, IsSound, search_from};
 ghost use Rattle.qc_search.specs.Fields.{AreOpened, search_of};
 ghost use Rattle.qc_starts.specs.Tight.{IsSeenSo};
 ghost use Rattle.qc_tree.specs.Trees.{NoneEarlier};
 
 use crate::best::shown_best;
 use crate::done::Done;
-use crate::given::offer;
+use crate::given::{aim_at, offer};
 use crate::outcome::{end_of, outcome};
 use crate::progress::{Progress, first_progress};
 use crate::roots::Roots;
@@ -74,7 +75,7 @@ impl Search {
     /// A search for the instance with at most so many branchings. All memory is taken here.
     pub fn open(alloc: Global, inst: &Instance, limit: u32) -> Result<Search, OutOfMemory>
         requires few { limit ≤ most_branchings }
-        ensures { IfOk result (λ search. search ≡ record { inst = inst.now; nodes = limit; first = None }) }
+        ensures { IfOk result (λ search. search ≡ search_from inst.now limit None) }
     {
         let incumbent = Schedule::new(alloc, inst.task_count())?;
         let path = Path::with_capacity(alloc, MOST_TASKS as usize)?;
@@ -87,14 +88,22 @@ impl Search {
 
     /// Offers a schedule that cranes may follow, as it is seen that way. Where it ends before what the search
     /// begins with, the search begins with its tight form: with its cranes, its order of tasks and its way no
-    /// task starts earlier.
+    /// task starts earlier. It aims at the end of what it begins with.
     pub fn offer(&mut self, given: &Schedule, way: Direction)
         requires judgeable { IsJudgeable self.old.inst given.now }
         requires seen { IsSeenSo self.old.inst.turn self.old.inst given.now way }
-        ensures stays { self.new ≡ record self.old { first = self.new.first } }
+        ensures stays { self.new ≡ search_from self.old.inst self.old.nodes self.new.first }
         ensures offered { IsOffered self.old.inst given.now self.old.first self.new.first }
     {
         offer(given, way, &mut self.roots, &mut self.progress);
+    }
+
+    /// Aims at an end where that comes before what it aims at: nodes that can't end before it are closed, so that few
+    /// branchings may show it.
+    pub fn aim_at(&mut self, aim: Bound)
+        ensures { self.new ≡ record self.old { aim = lesser self.old.aim aim } }
+    {
+        aim_at(aim, &self.roots, &mut self.progress);
     }
 
     /// What is known before the search: its limit, when what it begins with ends, and an end that no schedule comes

@@ -7,7 +7,7 @@ use Rattle.qc_num.specs.declared.bound.Bound.{Bound}
 use Rattle.qc_num.specs.declared.bound.Bound.TheVariants.{Least, Never}
 use Rattle.qc_model.specs.declared.schedule.Slot.{Slot}
 use Rattle.qc_model.specs.Instance.{InstanceView}
-use Rattle.qc_search.specs.Run.{DoneView, SearchView}
+use Rattle.qc_search.specs.Run.{DoneView, SearchView, search_from}
 use Rattle.qc_tree.specs.Trees.{IsTree, Tree, tree_text}
 use Rattle.qc_search.specs.Outcome.{IsFound, IsReread, WasOffered}
 use Rattle.qc_trial.specs.declared.made.Verdict.{Verdict}
@@ -16,7 +16,7 @@ use Rattle.qc_trial.specs.Made.{made_branchings}
 
 -- the search is one of the instance, and was offered a schedule, if any was found
 pub record IsSearchFor (inst : InstanceView) (search : SearchView) : Type 0 where
-  pub is : search ≡ record { inst = inst; nodes = made_branchings; first = search.first }
+  pub is : search ≡ search_from inst made_branchings search.first
   pub found : Option (List Slot)
   pub offered : WasOffered inst found None search.first
 

@@ -2,7 +2,7 @@ use Rattle.std.proofs.Common.{ℕ, ap, sym, subst, ◌∙◌}
 use Rattle.smallvec.specs.SmallVec.{SmallVec}
 use Rattle.qc_search.specs.declared.progress.Progress.{Progress}
 use Rattle.qc_search.specs.Lines.{IsWritable}
-use Rattle.qc_search.specs.Progress.{emptied}
+use Rattle.qc_search.specs.Progress.{cutoff, emptied}
 use Rattle.qc_search.proofs.LeafSteps.{closed_written, leaf_closes, visits_leaf}
 use Rattle.qc_search.proofs.LineLemmas.{writable}
 use Rattle.qc_search.proofs.StepLemmas.{same_but}
@@ -17,7 +17,7 @@ leave-requires g c =
     let same = same_but inst c.args.way ds old mid c.meet_closed-value.ensures.meets in
     subst (IsWritable c.args.leaf) (sym (ap (λ (p : SmallVec ℕ). p.items) same.path))
     (writable inst ds c.args.leaf old.path.items c.requires.met.valid.tasks.count
-    (leaf_closes inst ds old.incumbent_end c.args.leaf old.path.items c.requires.leaf))
+    (leaf_closes inst ds (cutoff old) c.args.leaf old.path.items c.requires.leaf))
 
 pub returns : goal.returns
 returns g c =

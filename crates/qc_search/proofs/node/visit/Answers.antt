@@ -1,5 +1,6 @@
-use Rattle.std.proofs.Common.{arith}
+use Rattle.std.proofs.Common.{arith, subst, sym}
 use Rattle.std.proofs.lemmas.Bool.{false≢true}
+use Rattle.qc_close.specs.Model.{IsClosable}
 use Rattle.qc_search.proofs.DescentLemmas.{has_starts, not_stuck}
 use Rattle.qc_search.proofs.LeafSteps.{visits_from}
 use Rattle.qc_search.proofs.node.visit.Goals as goal
@@ -14,12 +15,14 @@ put_branching-requires-clause-starts g c =
     let inst = c.args.starts.now.inst in
     let ds = c.args.starts.now.decisions in
     has_starts inst ds c.stuck-stuck.result c.stuck-stuck.ensures.none
-    (not_stuck inst ds c.args.progress.now.incumbent_end c.stuck-stuck.result c.stuck-stuck.ensures.none
+    (not_stuck inst ds c.cutoff-cutoff.result c.stuck-stuck.result c.stuck-stuck.ensures.none
     (λ closable. false≢true (c.in_default.ensures.closed closable)))
 
 pub put_branching-requires-clause-open : goal.put_branching-requires-clause-open
 put_branching-requires-clause-open g c = λ closable.
-    false≢true (c.in_default.ensures.closed closable)
+    let inst = c.args.starts.now.inst in
+    let ds = c.args.starts.now.decisions in
+    false≢true (c.in_default.ensures.closed (subst (IsClosable inst ds) (sym c.cutoff-cutoff.ensures) closable))
 
 pub returns-then-progress : goal.returns-then-progress
 returns-then-progress g c =
@@ -28,7 +31,9 @@ returns-then-progress g c =
 
 pub put_spent-requires-clause-open : goal.put_spent-requires-clause-open
 put_spent-requires-clause-open g c = λ closable.
-    false≢true (c.in_default.ensures.closed closable)
+    let inst = c.args.starts.now.inst in
+    let ds = c.args.starts.now.decisions in
+    false≢true (c.in_default.ensures.closed (subst (IsClosable inst ds) (sym c.cutoff-cutoff.ensures) closable))
 
 pub returns : goal.returns
 returns g c =

@@ -1,5 +1,5 @@
 use Rattle.std.proofs.Common.{None, Some, ap, refl, subst, sym, ◌∙◌}
-use Rattle.qc_search.specs.Run.{IsOffered, SearchView}
+use Rattle.qc_search.specs.Run.{IsOffered, SearchView, search_from}
 use Rattle.qc_trial.specs.Stored.{IsSearchFor}
 use Rattle.qc_trial.proofs.stored.search_for.Goals as goal
 use Rattle.qc_trial.proofs.stored.search_for.Goals.{in-Some, in_default}
@@ -13,7 +13,7 @@ returns c =
           let new = w.offer.new.self in
           let sched = w.in-Some.found.sched in
           let is : IsSearchFor inst new = record {
-            is = w.offer.ensures.stays ∙ ap (λ (s : SearchView). record s { first = new.first }) opened;
+            is = w.offer.ensures.stays ∙ ap (λ (s : SearchView). search_from s.inst s.nodes new.first) opened;
             found = Some sched;
             offered = subst (λ (s : SearchView). IsOffered s.inst sched s.first new.first) opened w.offer.ensures.offered;
           } in
