@@ -166,7 +166,7 @@ Ends with 0, or 13 Broken.
 Faults end with 2 to 6, 8, 9, 15 and 21, and are told by their kind and place: man 5 qc.
 ";
 
-const VERSION: &[u8] = b"qc 0.3.0
+const VERSION: &[u8] = b"qc 0.4.0
 proved with rattle-kit-13f logic dac8208d650f15bf
 ";
 
