@@ -44,7 +44,8 @@ BAY_PLANS = [
         "qc: note: arrival.edi: 1 more are bundled with the first of their place, and move with it: they have no row",
         "qc: note: 2 change their places: where that is from hatch to hatch, the ship file wants restows = \"ordered\""]),
     ("no plan of the arrival", "bay-plans", MOVES, {"arrival.edi": None}, 3, "ReadFault arrival",
-     ["qc: arrival.edi: this file, ARRIVAL, isn't there or can't be read", "qc: arrival.edi: No such file or directory"]),
+     ["qc: arrival.edi: this file, ARRIVAL, isn't there or can't be read",
+      "qc: the system said: No such file or directory (os error 2)"]),
     ("a device for DEPARTURE", "bay-plans", "moves arrival.edi /dev/zero new.csv", {}, 15, "TooLarge departure",
      ["qc: /dev/zero: this file, DEPARTURE, has more than 8388608 bytes, and may have no more"]),
     bad("equal service characters", "UNA++.? '\n" + ONE, "Una arrival 0",
@@ -59,7 +60,7 @@ BAY_PLANS = [
     bad("a plan cut between two segments", "".join(f"{line}\n" for line in ONE.splitlines()[:3]), "Cut arrival 4",
         [": the file ends ahead of segment 4, and its plan isn't over, which UNT ends, and UNZ where there was a UNB: "
          + SENT_AGAIN]),
-    bad("a plan cut amid a segment", ONE[:-3], "Cut arrival 4", [f', line 4: segment 4 is "UNT+4+1": no \' ends it: {SENT_AGAIN}'],
+    bad("a plan cut amid a segment", ONE[:-2], "Cut arrival 4", [f', line 4: segment 4 is "UNT+4+1": no \' ends it: {SENT_AGAIN}'],
         ),
     bad("a spreadsheet for a plan", "id,move\n" + 5000 * "x", "TooLong arrival 1",
         [', line 1: segment 1 is "id,movexxxxxxxxxxxxxxxxxxxxxxxxxxxxxxxxxxxxxxxxxxxxxxxxxxxxx"..: nothing ends it within 4096 '

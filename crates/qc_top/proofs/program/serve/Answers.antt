@@ -4,6 +4,9 @@ use Rattle.qc_top.proofs.program.serve.Goals as goal
 pub returns-in-Make-clause-account : goal.returns-in-Make-clause-account
 returns-in-Make-clause-account g c = rw c.in-Make.is (record { untouched = refl; run = c.make.ensures.account })
 
+pub returns-in-Odds-clause-account : goal.returns-in-Odds-clause-account
+returns-in-Odds-clause-account g c = rw c.in-Odds.is c.odds.ensures.account
+
 pub returns-in-Usage-clause-account : goal.returns-in-Usage-clause-account
 returns-in-Usage-clause-account g c = rw c.in-Usage.is (record { untouched = refl; reports = c.report_stop.ensures.report })
 
