@@ -12,3 +12,5 @@ pub mod RestLemmas
 pub mod EndLemmas
 pub mod ValidLemmas
 pub mod RemainingLemmas
+pub mod RangeLemmas
+pub mod BerthLemmas

@@ -7,3 +7,4 @@ pub mod Rest
 pub mod RestOf
 pub mod OldOrder
 pub mod Joined
+pub mod Fit
