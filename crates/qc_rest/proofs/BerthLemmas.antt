@@ -1,9 +1,7 @@
 -- The rest is an instance where its cranes may be ready so late, and stand so far along the rail.
 use Rattle.std.proofs.Common.{◌≡◌, ℕ, ◌+◌, ◌<◌, ◌≤◌, ℤ, inl, inr, length, IsSome, refl, sym, ap, subst, arith}
-use Rattle.std.proofs.lemmas.Bool.{cases_lt}
-use Rattle.std.proofs.lemmas.List.{get_or_past}
 use Rattle.qc_dispatch.specs.declared.stage.Stage.{Stage}
-use Rattle.qc_dispatch.specs.declared.stage.Stage.TheVariants.{Running, Waiting}
+use Rattle.qc_dispatch.specs.declared.stage.Stage.TheVariants.{Running}
 use Rattle.qc_dispatch.specs.Course.{Course, stage_of, start_in}
 use Rattle.qc_dispatch.specs.Promises.{Keeps}
 use Rattle.qc_model.specs.Instance.{HasPlaceLimits, Valid}
@@ -16,15 +14,10 @@ use Rattle.qc_rest.specs.Places.{ArePlaces, Outlook}
 use Rattle.qc_rest.specs.Progress.{AreOver, HasBegun}
 use Rattle.qc_rest.specs.RestOf.{rest_of}
 use Rattle.qc_rest.specs.Stands.{AreStands, IsStand, stand_of}
+use Rattle.qc_rest.proofs.LatestLemmas.{runs_low}
 use Rattle.qc_rest.proofs.PlaceLemmas.{in_order}
 use Rattle.qc_rest.proofs.RangeLemmas.{by_bays, by_places}
 use Rattle.qc_rest.proofs.ValidLemmas.{rest_valid}
-
-runs_low : (c : Course) → Keeps c → (i start : ℕ) → stage_of c i ≡ Running start → i < length c.inst.tasks
-runs_low c keeps i start runs = elim (cases_lt i (length c.stages)) [
-  | inl low ↦ omega (arith, low, keeps.stages)
-  | inr past ↦ absurd (cc (runs, get_or_past c.stages i Waiting past))
-]
 
 -- a task that runs is over no later than its crane must stay
 pub runs_short : (o : Outlook) → Feasible o.course.inst o.course.plan → Keeps o.course → AreStands o.course o.over o.stands

@@ -8,3 +8,8 @@ pub mod RestOf
 pub mod OldOrder
 pub mod Joined
 pub mod Fit
+pub mod Known
+pub mod Passing
+pub mod Passed
+pub mod Going
+pub mod Lasting
