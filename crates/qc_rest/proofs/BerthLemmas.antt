@@ -2,7 +2,7 @@
 use Rattle.std.proofs.Common.{◌≡◌, ℕ, ◌+◌, ◌<◌, ◌≤◌, ℤ, inl, inr, length, IsSome, refl, sym, ap, subst, arith}
 use Rattle.qc_dispatch.specs.declared.stage.Stage.{Stage}
 use Rattle.qc_dispatch.specs.declared.stage.Stage.TheVariants.{Running}
-use Rattle.qc_dispatch.specs.Course.{Course, stage_of, start_in}
+use Rattle.qc_dispatch.specs.Course.{stage_of, start_in}
 use Rattle.qc_dispatch.specs.Promises.{Keeps}
 use Rattle.qc_model.specs.Instance.{HasPlaceLimits, Valid}
 use Rattle.qc_model.specs.Numbers.{most_ready}

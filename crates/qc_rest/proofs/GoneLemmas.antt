@@ -1,23 +1,16 @@
 -- Once all tasks that are left are passed, the old order goes on when they start.
-use Rattle.std.proofs.Common.{◌≡◌, ℕ, ◌+◌, ◌<◌, ◌≤◌, ◌↔◌, inl, inr, Bool, true, false, cond, List, length, map, Option, None, Some, slice_index, slice_index_or, refl, ap, sym, subst, ◌∙◌, arith}
+use Rattle.std.proofs.Common.{◌≡◌, ℕ, ◌+◌, ◌<◌, ◌≤◌, inl, inr, Bool, false, List, length, map, Option, None, Some, slice_index, ap, sym, subst, ◌∙◌, arith}
 use Rattle.std.specs.List.{range_with_len}
-use Rattle.std.specs.Option.{unwrap_or}
-use Rattle.std.proofs.lemmas.Bool.{cases_Bool, cases_eq, cases_lt, cond-false, cond-true}
-use Rattle.std.proofs.lemmas.List.{get_or_past}
+use Rattle.std.proofs.lemmas.Bool.{cases_Bool, cond-false, cond-true}
 use Rattle.std.proofs.lemmas.List.FromFn.{get_or-map-range_with_len, length-map-range_with_len}
 use Rattle.qc_dispatch.specs.Course.{Course, is_waiting, stage_of}
-use Rattle.qc_dispatch.specs.Following.{most_passed}
 use Rattle.qc_dispatch.specs.Journal.{Journal}
-use Rattle.qc_dispatch.specs.Order.{Leads, free_of, gap}
-use Rattle.qc_model.specs.declared.schedule.Slot.{Slot}
+use Rattle.qc_dispatch.specs.Order.{gap}
 use Rattle.qc_model.specs.Instance.{ticks_of}
 use Rattle.qc_rest.specs.declared.pass.Pass.{Pass}
 use Rattle.qc_rest.specs.Going.{first_end, first_go}
-use Rattle.qc_rest.specs.GoneOn.{AreGoneOn, MayGoBy, end_with}
-use Rattle.qc_rest.specs.Known.{IsKnown}
-use Rattle.qc_rest.specs.Passed.{most_base, most_first}
-use Rattle.qc_rest.specs.Passing.{ArePassed, EndBy, HasRoom, IsPassed, MayBy, StartBy, end_in, is_open}
-use Rattle.qc_rest.specs.Progress.{IsLeft}
+use Rattle.qc_rest.specs.GoneOn.{AreGoneOn, end_with}
+use Rattle.qc_rest.specs.Passing.{ArePassed, HasRoom, MayBy, end_in, is_open}
 use Rattle.qc_rest.specs.Remaining.{over_at}
 
 module _ (j : Journal) where

@@ -1,8 +1,8 @@
 -- A log that was followed is of its plan, and no number of ticks in it is long.
-use Rattle.std.proofs.Common.{◌≡◌, ℕ, ◌+◌, ◌^◌, ◌<◌, ◌≤◌, inl, inr, Bool, true, false, cond, List, [], ◌∷◌, length, replicate, slice_set, Option, None, Some, ok_or, Result, Ok, Err, bytes_eq, codes, refl, ap, sym, subst, ◌∙◌, arith}
+use Rattle.std.proofs.Common.{◌≡◌, ℕ, ◌+◌, ◌<◌, ◌≤◌, inl, inr, Bool, true, false, cond, List, [], ◌∷◌, length, replicate, slice_set, Option, None, Some, ok_or, Result, Ok, Err, bytes_eq, codes, refl, ap, sym, subst, ◌∙◌, arith}
 use Rattle.std.specs.Prelude.{nat_lt, slice_index_or}
 use Rattle.std.specs.List.{after_first, before_first}
-use Rattle.std.proofs.lemmas.Bool.{cases_eq, cases_lt, cond_both}
+use Rattle.std.proofs.lemmas.Bool.{cases_eq, cases_lt}
 use Rattle.std.proofs.lemmas.Grind.{get_or-set_at}
 use Rattle.std.proofs.lemmas.List.{get_or-replicate, get_or-set_other, get_or_past, length-replicate, length-set}
 use Rattle.qc_num.specs.Digits.{number_in}
@@ -17,7 +17,7 @@ use Rattle.qc_dispatch.specs.declared.report.Report.{Report}
 use Rattle.qc_dispatch.specs.declared.report.Report.TheVariants.{Passed, Done, Left}
 use Rattle.qc_dispatch.specs.Course.{Course, past_moments}
 use Rattle.qc_dispatch.specs.Following.{most_passed}
-use Rattle.qc_dispatch.specs.Journal.{Follows, Goes, IsFollowed, Journal, TakesAll, TakesLine, WentOn}
+use Rattle.qc_dispatch.specs.Journal.{Follows, Goes, IsFollowed, Journal, TakesAll, WentOn}
 use Rattle.qc_dispatch.specs.Log.{left_in, report_in, report_of, task_in, ticks_in}
 use Rattle.qc_dispatch.specs.Promises.{Keeps}
 use Rattle.qc_model.specs.declared.schedule.Slot.{Slot}

@@ -1,23 +1,21 @@
 -- What tasks that run still need, and the latest task of a crane.
-use Rattle.std.proofs.Common.{◌≡◌, ℕ, ◌+◌, ◌-◌, ◌<◌, ◌≤◌, ◌↔◌, inl, inr, Bool, true, false, List, [], ◌∷◌, ◌++◌, length, Option, None, Some, IfSome, IsSome, refl, ap, sym, subst, ◌∙◌, arith}
+use Rattle.std.proofs.Common.{◌≡◌, ℕ, ◌+◌, ◌<◌, ◌≤◌, inl, inr, Bool, true, false, List, [], ◌∷◌, ◌++◌, length, Option, None, Some, IfSome, refl, ap, sym, subst, ◌∙◌, arith}
 use Rattle.std.specs.Option.{unwrap_or}
 use Rattle.std.proofs.lemmas.Bool.{cases_eq, cases_lt, false≢true}
 use Rattle.std.proofs.lemmas.List.{get_or_append_left, get_or_past, get_or_push}
 use Rattle.qc_dispatch.specs.declared.follow.Remaining.{Remaining}
 use Rattle.qc_dispatch.specs.declared.stage.Stage.{Stage}
 use Rattle.qc_dispatch.specs.declared.stage.Stage.TheVariants.{Waiting, Running, Ended}
-use Rattle.qc_dispatch.specs.Course.{Course, end_at, end_in, is_running, is_waiting, stage_of, start_at, start_in}
+use Rattle.qc_dispatch.specs.Course.{Course, end_at, end_in, is_running, is_waiting, stage_of, start_in}
 use Rattle.qc_dispatch.specs.Following.{most_passed}
 use Rattle.qc_dispatch.specs.Journal.{Journal}
 use Rattle.qc_dispatch.specs.Promises.{IsSpan, Keeps}
 use Rattle.qc_dispatch.specs.Worked.{begun_at}
-use Rattle.qc_model.specs.declared.crane.Crane.{Crane}
-use Rattle.qc_model.specs.Instance.{bay_of, crane, ticks_of}
+use Rattle.qc_model.specs.Instance.{bay_of, crane}
 use Rattle.qc_model.specs.Rules.{crane_of}
-use Rattle.qc_rest.specs.declared.remains.StillRuns.{StillRuns}
 use Rattle.qc_rest.specs.declared.stand.Stand.{Stand}
-use Rattle.qc_rest.specs.Known.{AreShort, IsKnown, IsLatest, IsLatestOf, IsMine}
-use Rattle.qc_rest.specs.Remaining.{IsDue, IsFirstDue, NoneIsDue, left_of, remaining, still_runs}
+use Rattle.qc_rest.specs.Known.{IsKnown, IsLatest, IsLatestOf, IsMine}
+use Rattle.qc_rest.specs.Remaining.{IsDue, NoneIsDue, left_of, remaining, still_runs}
 use Rattle.qc_rest.specs.Stands.{IsStand, no_stand, stand_of}
 
 -- ---- stages

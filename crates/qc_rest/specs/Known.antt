@@ -1,14 +1,13 @@
 -- inner: what is known of a log that was followed, and the latest task of a crane so far.
-use Rattle.std.specs.Prelude.{◌≡◌, ℕ, ◌<◌, ◌≤◌, ◌+◌, List, length, Option, None, Some, slice_index_or}
+use Rattle.std.specs.Prelude.{◌≡◌, ℕ, ◌<◌, ◌≤◌, List, length, Option, None, Some, slice_index_or}
 use Rattle.qc_dispatch.specs.declared.follow.Followed.{Followed}
 use Rattle.qc_dispatch.specs.declared.follow.Remaining.{Remaining}
 use Rattle.qc_dispatch.specs.Course.{Course, past_moments}
 use Rattle.qc_dispatch.specs.Following.{journal_of, most_passed}
 use Rattle.qc_dispatch.specs.Journal.{Journal}
 use Rattle.qc_dispatch.specs.Promises.{Keeps}
-use Rattle.qc_model.specs.declared.schedule.Slot.{Slot}
-use Rattle.qc_model.specs.Instance.{InstanceView, IsOnRail, Valid}
-use Rattle.qc_model.specs.Numbers.{most_ready, most_tasks}
+use Rattle.qc_model.specs.Instance.{Valid}
+use Rattle.qc_model.specs.Numbers.{most_tasks}
 use Rattle.qc_model.specs.Rules.{Feasible, crane_of}
 use Rattle.qc_rest.specs.Progress.{HasBegun}
 

@@ -1,5 +1,5 @@
 -- inner: when the old order is over.
-use Rattle.std.specs.Prelude.{ℕ, ◌+◌, ◌<◌, ◌≤◌, ◌↔◌, length}
+use Rattle.std.specs.Prelude.{ℕ, ◌+◌, ◌<◌, ◌≤◌, ◌↔◌}
 use Rattle.qc_dispatch.specs.Course.{Course}
 use Rattle.qc_model.specs.Instance.{ticks_of}
 use Rattle.qc_rest.specs.Progress.{IsLeft}

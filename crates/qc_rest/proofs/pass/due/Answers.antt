@@ -1,4 +1,4 @@
-use Rattle.std.proofs.Common.{◌<◌, length, arith}
+use Rattle.std.proofs.Common.{arith}
 use Rattle.qc_rest.proofs.PassLemmas.{due_all, due_first, due_more}
 use Rattle.qc_rest.proofs.pass.due.Goals as goal
 

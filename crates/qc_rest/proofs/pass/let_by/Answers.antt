@@ -1,4 +1,4 @@
-use Rattle.std.proofs.Common.{◌≡◌, ◌<◌, ◌+◌, ◌*◌, ◌∙◌, ℕ, length, true, false, slice_index_or, inl, inr, sym, ap, arith}
+use Rattle.std.proofs.Common.{◌≡◌, ℕ, false, slice_index_or, inl, inr, ap, arith}
 use Rattle.std.proofs.lemmas.Bool.{cases_Bool}
 use Rattle.qc_dispatch.specs.Marks.{mark}
 use Rattle.qc_rest.proofs.pass.let_by.Goals as goal

@@ -1,4 +1,3 @@
-use Rattle.std.proofs.Common.{arith}
 use Rattle.std.proofs.lemmas.Bool.{iff_false}
 use Rattle.qc_rest.proofs.PassLemmas.{soonest_found, soonest_stays}
 use Rattle.qc_rest.proofs.pass.soonest.Goals as goal

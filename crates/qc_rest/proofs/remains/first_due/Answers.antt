@@ -1,4 +1,4 @@
-use Rattle.std.proofs.Common.{◌+◌, inl, inr, subst, length, ap, arith}
+use Rattle.std.proofs.Common.{inl, inr, subst, length, ap, arith}
 use Rattle.std.proofs.lemmas.Bool.{cases_eq, iff_false}
 use Rattle.qc_dispatch.specs.Following.{journal_of}
 use Rattle.qc_model.specs.Instance.{InstanceView}

@@ -1,7 +1,5 @@
-use Rattle.std.proofs.Common.{◌<◌, ◌≤◌, ◌∙◌, length, None, sym, arith}
+use Rattle.std.proofs.Common.{◌<◌, ◌∙◌, length, None, sym, arith}
 use Rattle.std.proofs.lemmas.List.{get_or_default}
-use Rattle.qc_dispatch.specs.Following.{most_passed}
-use Rattle.qc_rest.specs.Remaining.{left_of}
 use Rattle.qc_rest.proofs.LatestLemmas.{left_short}
 use Rattle.qc_rest.proofs.remains.remaining.Goals as goal
 

@@ -1,4 +1,4 @@
-use Rattle.std.proofs.Common.{◌∙◌, ap, sym, arith}
+use Rattle.std.proofs.Common.{◌∙◌, ap, sym}
 use Rattle.qc_dispatch.specs.Course.{is_running, stage_of}
 use Rattle.qc_dispatch.specs.Following.{journal_of}
 use Rattle.qc_model.specs.declared.schedule.Slot.{Slot}

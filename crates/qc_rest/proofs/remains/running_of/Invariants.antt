@@ -2,8 +2,7 @@ use Rattle.std.proofs.Common.{◌≡◌, map, filter}
 use Rattle.std.specs.List.{range_with_len}
 use Rattle.qc_dispatch.specs.Course.{is_running, stage_of}
 use Rattle.qc_dispatch.specs.Following.{journal_of}
-use Rattle.qc_model.specs.Rules.{crane_of}
-use Rattle.qc_rest.specs.Remaining.{remaining, still_runs}
+use Rattle.qc_rest.specs.Remaining.{still_runs}
 use Rattle.qc_rest.proofs.remains.running_of.Given as goal
 
 abbrev pub invariant-loop-task : goal.invariant-loop-task

@@ -1,4 +1,4 @@
-use Rattle.std.proofs.Common.{◌+◌, arith}
+use Rattle.std.proofs.Common.{arith}
 use Rattle.qc_dispatch.specs.Following.{journal_of}
 use Rattle.qc_rest.specs.Remaining.{over_at}
 use Rattle.qc_rest.proofs.LatestLemmas.{more_stands}

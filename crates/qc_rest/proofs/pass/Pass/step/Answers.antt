@@ -1,7 +1,6 @@
-use Rattle.std.proofs.Common.{◌≡◌, ◌+◌, ◌≤◌, ◌∙◌, ℕ, List, Option, Some, slice_index, slice_set, refl, sym, ap, subst, arith}
+use Rattle.std.proofs.Common.{◌≡◌, ◌+◌, ◌∙◌, ℕ, List, Option, Some, slice_index, slice_set, refl, ap, subst, arith}
 use Rattle.std.proofs.lemmas.Grind.{get_or_default_zero}
 use Rattle.qc_model.specs.declared.task.Task.{Task}
-use Rattle.qc_model.specs.Numbers.{most_distance}
 use Rattle.qc_rest.specs.Passed.{most_base}
 use Rattle.qc_rest.specs.Passing.{EndBy, IsBegin}
 use Rattle.qc_rest.proofs.pass.Pass.step.Goals as goal
