@@ -12,3 +12,11 @@ pub mod RestLemmas
 pub mod EndLemmas
 pub mod ValidLemmas
 pub mod RemainingLemmas
+pub mod KeptLemmas
+pub mod LatestLemmas
+pub mod JournalLemmas
+pub mod PassLemmas
+pub mod GoneLemmas
+pub mod LastLemmas
+pub mod RangeLemmas
+pub mod BerthLemmas

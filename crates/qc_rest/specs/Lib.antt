@@ -7,3 +7,9 @@ pub mod Rest
 pub mod RestOf
 pub mod OldOrder
 pub mod Joined
+pub mod Fit
+pub mod Known
+pub mod Passing
+pub mod Passed
+pub mod Going
+pub mod Lasting

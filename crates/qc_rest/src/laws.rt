@@ -1,17 +1,16 @@
 //! What holds of the rest of a plan, whatever is planned for it.
 
-ghost use Rattle.std.specs.Prelude.{◌≡◌, ◌+◌, ◌<◌, ◌≤◌, ◌↔◌, ℕ, ℤ, pos, negsuc, ◌+ℤ◌, ◌≤ℤ◌, List, length};
-ghost use Rattle.qc_dispatch.specs.Course.{Course, stage_of};
-ghost use Rattle.qc_dispatch.specs.declared.stage.Stage.TheVariants.{Running};
+ghost use Rattle.std.specs.Prelude.{◌+◌, ◌*◌, ◌<◌, ◌≤◌, ◌↔◌, ℕ, ℤ, pos, ◌+ℤ◌, ◌≤ℤ◌, List, length};
+ghost use Rattle.qc_dispatch.specs.Course.{Course};
 ghost use Rattle.qc_dispatch.specs.Journal.{Journal};
 ghost use Rattle.qc_dispatch.specs.Promises.{Keeps};
 ghost use Rattle.qc_dispatch.specs.Worked.{with_tasks};
 ghost use Rattle.qc_model.specs.declared.schedule.Slot.{Slot};
 ghost use Rattle.qc_model.specs.declared.task.Task.{Task};
-ghost use Rattle.qc_model.specs.Instance.{HasBayLimits, HasBerths, HasPlaceLimits, InstanceView, IsFrom, IsOnRail, Valid};
-ghost use Rattle.qc_model.specs.Numbers.{most_ready};
+ghost use Rattle.qc_model.specs.Instance.{HasPlaceLimits, InstanceView, Valid, crane};
 ghost use Rattle.qc_model.specs.Rules.{Feasible, end_of, ends, start_of};
 ghost use Rattle.qc_rest.specs.declared.stand.Stand.{Stand};
+ghost use Rattle.qc_rest.specs.Fit.{IsBerth, IsReadySoon};
 ghost use Rattle.qc_rest.specs.GoneOn.{AreGoneOn};
 ghost use Rattle.qc_rest.specs.Joined.{IsJoined};
 ghost use Rattle.qc_rest.specs.OldOrder.{IsOldOrder};
@@ -61,15 +60,28 @@ fn the_rest_is_what_is_left()
         → IsExactRest c over stands places (rest_of c over stands places) }
 {}
 
-/// It is an instance where no task that runs needs more ticks than a crane may wait, and each place is within the limits.
+/// It is an instance where no crane must wait longer than one may, and where, if places are given in decimetres, each
+/// crane begins at a place that may be written. Else places are within the limits by themselves.
 fn the_rest_is_an_instance()
-    ensures { (c : Course) (over : ℕ → ℕ) (stands : List Stand) (places : ℕ → ℤ) → Valid c.inst → Keeps c → AreOver c over
-        → AreStands c over stands
-        → ((i start : ℕ) → stage_of c i ≡ Running start → over i ≤ c.clock + most_ready)
-        → ((k : ℕ) → k + 1 < length c.inst.cranes → (places k +ℤ pos c.inst.gap) ≤ℤ places (k + 1))
-        → (HasBayLimits c.inst → HasBerths (rest_of c over stands places) (IsFrom (negsuc 299) (pos 300)))
-        → (HasPlaceLimits c.inst → HasBerths (rest_of c over stands places) IsOnRail)
-        → Valid (rest_of c over stands places) }
+    ensures { (o : Outlook) → Valid o.course.inst → Feasible o.course.inst o.course.plan → Keeps o.course
+        → AreOver o.course o.over → AreStands o.course o.over o.stands → AreGoneOn o.course o.over o.goes
+        → (tops places : ℕ → ℤ) → ArePlaces o tops places
+        → ((k : ℕ) → k < length o.course.inst.cranes → IsReadySoon o k)
+        → (HasPlaceLimits o.course.inst → (k : ℕ) → k < length o.course.inst.cranes → IsBerth (places k))
+        → Valid (rest_of o.course o.over o.stands places) }
+{}
+
+/// No crane begins further up the rail than the last bay, with room for the cranes below it, or than its start bay; nor
+/// further down than the first bay, with room for those above it, or than its start bay.
+fn cranes_begin_near_the_ship()
+    ensures up { (o : Outlook) → Valid o.course.inst → AreStands o.course o.over o.stands → (tops places : ℕ → ℤ)
+        → ArePlaces o tops places → (k : ℕ) (high : ℤ) → k < length o.course.inst.cranes
+        → (pos o.course.inst.bays +ℤ pos (o.course.inst.gap * k)) ≤ℤ high → (crane o.course.inst k).bay ≤ℤ high
+        → places k ≤ℤ high }
+    ensures down { (o : Outlook) → Valid o.course.inst → AreStands o.course o.over o.stands → (tops places : ℕ → ℤ)
+        → ArePlaces o tops places → (k above : ℕ) (low : ℤ) → k + above < length o.course.inst.cranes
+        → length o.course.inst.cranes ≤ k + above + 1 → (low +ℤ pos (o.course.inst.gap * above)) ≤ℤ pos 1
+        → low ≤ℤ (crane o.course.inst k).bay → low ≤ℤ places k }
 {}
 
 /// The old order is a feasible schedule of the rest. No task starts sooner than it does where the old order goes on, and

@@ -10,7 +10,13 @@
 //! (`the_old_order_is_late_by_less_than_a_bay`).
 #![tactic(auto)]
 
+mod gone;
+mod last;
 mod laws;
+mod pass;
+mod remains;
 mod stand;
+mod stands;
 
+pub use remains::StillRuns;
 pub use stand::Stand;
