@@ -24,7 +24,7 @@ use Rattle.qc_ship.specs.Cells.{CellView, IsCell, bay_in, cell_in, cell_text, ov
 use Rattle.qc_ship.specs.Ship.{ShipView, place_of_bay}
 use Rattle.qc_stow.specs.Fields.{is_id, is_id_byte}
 use Rattle.qc_stow.specs.Fields as stow
-use Rattle.qc_stow.specs.Moves.{has_id, is_taken, most_moves, same_move}
+use Rattle.qc_stow.specs.Moves.{AreMoves, has_id, is_taken, most_moves, same_move}
 use Rattle.qc_stow.specs.Rows.{row_in}
 use Rattle.qc_stow.specs.Stow.{moves_in, moves_of, next_row, numbered, over_hatch}
 use Rattle.qc_stow.specs.declared.columns.Columns.{Columns}
@@ -38,8 +38,8 @@ use Rattle.qc_bayplan.specs.declared.plan.Container.{Container}
 use Rattle.qc_changes.specs.Changes.{AreChanges, ChangesView}
 use Rattle.qc_changes.specs.Classes.{stands}
 use Rattle.qc_changes.specs.MoveList.{IsMoveList, row_of}
-use Rattle.qc_changes.specs.ListText.{header, list_text, move_text, read_for, row_line}
-use Rattle.qc_changes.proofs.Elements.{EachPair, In, each_in}
+use Rattle.qc_changes.specs.ListText.{IsPlain, header, list_text, move_text, read_for, row_line}
+use Rattle.qc_changes.proofs.Elements.{EachPair, In, each_in, pairs_from_index}
 use Rattle.qc_changes.proofs.LeadLemmas.{apart, apart', cells_apart, each_off, each_on, off_apart, off_kinds, off_stand, on_apart, on_kinds, on_stand, pair_append, pair_from}
 use Rattle.qc_changes.proofs.StandLemmas.{coming_in, going_in, id_other}
 
@@ -101,11 +101,6 @@ id_plain b d = grind (arith, nat_tests, d)
 
 digit_plain : (b : ℕ) → is_ascii_digit b ≡ true → needs_byte default_writer b ≡ false
 digit_plain b d = grind (arith, nat_tests, d)
-
--- what is known of a row
-record IsPlain (row : Row) : Type 0 where
-  id : is_id row.id ≡ true
-  cell : IsCell row.cell
 
 kind_field : Move → List ℕ
 kind_field Discharge = codes "D"
@@ -217,6 +212,34 @@ leaves_more earlier one row all leaves = record {
   cell = list_any-append (λ (e : Row). same_move row.kind e.kind && overlap row.cell e.cell) earlier (one ∷ []) ∙ rw (all.cell, leaves.cell) refl;
 }
 
+same_kinds : (k l : Move) → same_move k l ≡ true → l ≡ k
+same_kinds Discharge Discharge e = refl
+same_kinds Discharge Load e = cc
+same_kinds Load Discharge e = cc
+same_kinds Load Load e = refl
+
+abbrev OtherId : Row → Row → Type 0
+OtherId a b = a.kind ≡ b.kind → a.id ≢ b.id
+
+abbrev OtherCell : Row → Row → Type 0
+OtherCell a b = a.kind ≡ b.kind → overlap b.cell a.cell ≡ false
+
+leaves_other : (a b : Row) → OtherId a b → OtherCell a b → Leaves a b
+leaves_other a b id cell = elim (cases_Bool (same_move b.kind a.kind)) [
+  | inl same ↦
+      let one = same_kinds b.kind a.kind same in
+      record { id = rw same (id_other b.id a.id (λ e. id one (sym e))); cell = rw same (cell one) }
+  | inr other ↦ record { id = rw other refl; cell = rw other refl }
+]
+
+all_leave : (rows : List Row) → EachPair OtherId rows → EachPair OtherCell rows → EachPair Leaves rows
+all_leave [] ids cells = tt
+all_leave (row ∷ rows) ids cells = (each_leaves rows ids.0 cells.0, all_leave rows ids.1 cells.1)
+  where
+    each_leaves : (rs : List Row) → Each (OtherId row) rs → Each (OtherCell row) rs → Each (Leaves row) rs
+    each_leaves [] i c = tt
+    each_leaves (r ∷ rs) i c = (leaves_other row r i.0 c.0, each_leaves rs i.1 c.1)
+
 module _ (ship : ShipView) where
   abbrev judge : List Row → Row → Result Row StowFault
   judge earlier row = numbered (length earlier + 2) (over_hatch ship row)
@@ -249,6 +272,23 @@ module _ (ship : ShipView) where
       more : (rs : List Row) → Each (LeavesAll earlier) rs → Each (Leaves row) rs → Each (LeavesAll (earlier ++ row ∷ [])) rs
       more [] a b = tt
       more (r ∷ rs) a b = (leaves_more earlier row r a.0 b.0, more rs a.1 b.1)
+
+  rows_read : (rows : List Row) → length rows ≤ most_moves → Each IsPlain rows → EachPair Leaves rows
+      → moves_in ship (list_text rows) ≡ read_for ship rows
+  rows_read rows few plain pairs =
+      let records = map line_fields rows in
+      let size : length (names ∷ records) ≤ most_moves + 2 = omega (arith, few, length-map rows line_fields) in
+      ap (λ (rs : List (List (List ℕ))). moves_of ship (take (most_moves + 2) rs)) (text_records rows plain)
+      ∙ ap (moves_of ship) (take_all (most_moves + 2) (names ∷ records) size)
+      ∙ each_back [] rows (omega (arith, few)) plain (none_before rows) pairs
+    where
+      none_before : (rs : List Row) → Each (LeavesAll []) rs
+      none_before [] = tt
+      none_before (r ∷ rs) = (record { id = refl; cell = refl }, none_before rs)
+
+  -- any moves of a list, where their ids and cells are such
+  pub moves_read : (rows : List Row) → AreMoves rows → Each IsPlain rows → moves_in ship (list_text rows) ≡ read_for ship rows
+  moves_read rows are plain = rows_read rows are.count plain (all_leave rows (pairs_from_index _ rows are.ids) (pairs_from_index _ rows are.apart))
 
 -- ---- a list that leads from one plan to another
 
@@ -295,14 +335,5 @@ module _ (first second : List Container) (c : ChangesView) (a : AreContainers fi
       (each_in (λ (r : Row). r.kind ≡ Discharge) m.off x (off_kinds first second changes.lifted c.rows a b changes.are m) at)
       (each_in (λ (r : Row). r.kind ≡ Load) m.on y (on_kinds first second changes.lifted c.rows a b changes.are m) at')))
 
-  none_before : (rows : List Row) → Each (LeavesAll []) rows
-  none_before [] = tt
-  none_before (r ∷ rs) = (record { id = refl; cell = refl }, none_before rs)
-
   pub list_reads : (ship : ShipView) → length c.rows ≤ most_moves → moves_in ship (list_text c.rows) ≡ read_for ship c.rows
-  list_reads ship few =
-      let records = map line_fields c.rows in
-      let size : length (names ∷ records) ≤ most_moves + 2 = omega (arith, few, length-map c.rows line_fields) in
-      ap (λ (rs : List (List (List ℕ))). moves_of ship (take (most_moves + 2) rs)) (text_records c.rows rows_plain)
-      ∙ ap (moves_of ship) (take_all (most_moves + 2) (names ∷ records) size)
-      ∙ each_back ship [] c.rows (omega (arith, few)) rows_plain (none_before c.rows) rows_leave
+  list_reads ship few = rows_read ship c.rows few rows_plain rows_leave

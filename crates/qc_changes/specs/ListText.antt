@@ -1,9 +1,10 @@
 -- public: the text of a list of moves, as the reader of stowage lists takes it.
-use Rattle.std.specs.Prelude.{ℕ, Bool, List, [], ◌++◌, ◌+◌, length, Result, codes, if◌then◌else◌}
+use Rattle.std.specs.Prelude.{◌≡◌, ℕ, Bool, true, List, [], ◌++◌, ◌+◌, length, Result, codes, if◌then◌else◌}
 use Rattle.std.specs.List.{flat_map}
 use Rattle.qc_num.specs.Reading.{each}
-use Rattle.qc_ship.specs.Cells.{cell_text, is_forty}
+use Rattle.qc_ship.specs.Cells.{IsCell, cell_text, is_forty}
 use Rattle.qc_ship.specs.Ship.{ShipView}
+use Rattle.qc_stow.specs.Fields.{is_id}
 use Rattle.qc_stow.specs.declared.row.Move.{Move}
 use Rattle.qc_stow.specs.declared.row.Move.TheVariants.{Discharge, Load}
 use Rattle.qc_stow.specs.declared.row.Row.{Row}
@@ -34,3 +35,8 @@ list_text rows = header ++ flat_map row_line rows
 -- one whose bay no hatch of the ship takes
 abbrev pub read_for : ShipView → List Row → Result (List Row) StowFault
 read_for ship rows = each (λ earlier row. numbered (length earlier + 2) (over_hatch ship row)) [] rows
+
+-- what is known of every row: its id and its cell are such
+pub record IsPlain (row : Row) : Type 0 where
+  pub id : is_id row.id ≡ true
+  pub cell : IsCell row.cell

@@ -19,5 +19,5 @@ mod rows;
 pub use between::changes;
 pub use class::Class;
 pub use counts::Counts;
-pub use list::write_list;
+pub use list::{put_header, row_line, write_list};
 pub use outcome::Changes;

@@ -2,7 +2,7 @@
 
 ghost use Rattle.std.specs.Prelude.{◌≡◌};
 ghost use Rattle.qc_io.specs.Writes.{Writes};
-ghost use Rattle.qc_changes.specs.ListText.{header, length_text, list_text, move_text, row_line};
+ghost use Rattle.qc_changes.specs.ListText.{IsPlain, header, length_text, list_text, move_text, row_line};
 ghost use Rattle.std.specs.List.{flat_map};
 
 use qc_io::{Sink, WriteFault, put_all};
@@ -29,8 +29,9 @@ fn length_text(forty: bool) -> &'static [u8; 4]
 }
 
 /// The line of a move.
-fn row_line(row: &Row) -> Text<64>
-    ensures { result ≡ row_line row.now }
+pub fn row_line(row: &Row) -> Text<64>
+    ensures line { result ≡ row_line row.now }
+    ensures plain { IsPlain row.now }
 {
     let mut line = Text::of(row.id.as_bytes());
     line.push(move_text(row.kind));
@@ -49,11 +50,18 @@ fn put_rows<K: Sink>(rows: &[Row], sink: &mut K) -> Result<(), WriteFault>
     Ok(())
 }
 
+/// Writes the line ahead of all moves.
+pub fn put_header<K: Sink>(sink: &mut K) -> Result<(), WriteFault>
+    ensures { Writes (K.view sink.old) (K.view sink.new) header result }
+{
+    put_all(sink, HEADER)
+}
+
 /// Writes moves as a stowage list: the line `id,move,cell,length`, and one for each move. It takes no
 /// memory. After `WriteFault` a part of the text was written, from its front.
 pub fn write_list<K: Sink>(rows: &[Row], sink: &mut K) -> Result<(), WriteFault>
     ensures { Writes (K.view sink.old) (K.view sink.new) (list_text rows.now) result }
 {
-    put_all(sink, HEADER)?;
+    put_header(sink)?;
     put_rows(rows, sink)
 }

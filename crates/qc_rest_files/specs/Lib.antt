@@ -1,0 +1,3 @@
+pub mod ShipTable
+pub mod RestShip
+pub mod LeftRows
