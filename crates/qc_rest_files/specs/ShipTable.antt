@@ -39,13 +39,16 @@ abbrev pub hatch_at : List ℕ → ℤ → ℕ
 hatch_at places place = option_map_or (λ k. k + 1) (position (λ p. int_eq (pos p) place) places) 0
 
 -- the table of a crane
-abbrev pub crane_value : List ℕ → Crane → Data
-crane_value places c = table
-    (member (codes "bay") (integer c.bay)
+abbrev pub crane_members : List ℕ → Crane → Members
+crane_members places c =
+    member (codes "bay") (integer c.bay)
     (member (codes "from") (number (hatch_at places c.from))
     (member (codes "name") (string c.name)
     (member (codes "ready") (number c.ready)
-    (member (codes "to") (number (hatch_at places c.to)) no_members)))))
+    (member (codes "to") (number (hatch_at places c.to)) no_members))))
+
+abbrev pub crane_value : List ℕ → Crane → Data
+crane_value places c = table (crane_members places c)
 
 abbrev pub restows_text : Bool → List ℕ
 restows_text true = codes "ordered"
@@ -56,20 +59,23 @@ abbrev pub member_if : Bool → List ℕ → Data → Members → Members
 member_if true key d rest = member key d rest
 member_if false key d rest = rest
 
--- the keys in the order of their bytes: `clear` and `places` of a ship with places in decimetres, `margin` of another,
--- and all others of each
-abbrev pub ship_table : ShipView → Members
-ship_table ship =
+-- the table, with or without places, its keys in the order of their bytes
+abbrev pub table_with : Bool → ShipView → Members
+table_with in_decimetres ship =
     member (codes "apart") (array_of apart_value ship.apart)
     (member (codes "before") (array_of before_value ship.before)
-    (member_if ship.in_decimetres (codes "clear") (number ship.gap)
+    (member_if in_decimetres (codes "clear") (number ship.gap)
     (member (codes "cover") (number ship.cover)
     (member (codes "crane") (array_of (crane_value ship.places) ship.cranes)
     (member (codes "deck_move") (number ship.deck_move)
     (member (codes "hatches") (array_of number ship.hatches)
     (member (codes "hold_move") (number ship.hold_move)
-    (member_if (not ship.in_decimetres) (codes "margin") (number (ship.gap - 1))
+    (member_if (not in_decimetres) (codes "margin") (number (ship.gap - 1))
     (member (codes "not_before") (array_of release_value ship.not_before)
-    (member_if ship.in_decimetres (codes "places") (array_of number ship.places)
+    (member_if in_decimetres (codes "places") (array_of number ship.places)
     (member (codes "restows") (string (restows_text ship.ordered))
     (member (codes "travel") (number ship.travel) no_members))))))))))))
+
+-- `clear` and `places` of a ship that gives places, `margin` of another, and all other keys of each
+abbrev pub ship_table : ShipView → Members
+ship_table ship = table_with ship.in_decimetres ship
