@@ -1,5 +1,5 @@
 -- How many containers have each class.
-use Rattle.std.proofs.Common.{◌≡◌, ◌≢◌, ◌∙◌, ◌⊎◌, ◌+◌, ◌≤◌, ◌++◌, ◌∷◌, [], zero, suc, ℕ, Bool, true, false, not, ◌&&◌, cond, List, Option, Some, None, map, length, refl, sym, ap, subst, inl, inr, arith}
+use Rattle.std.proofs.Common.{◌≡◌, ◌≢◌, ◌∙◌, ◌⊎◌, ◌+◌, ◌∷◌, [], ℕ, Bool, true, false, not, ◌&&◌, cond, List, Option, Some, None, length, refl, sym, ap, subst, inl, inr, arith}
 use Rattle.std.specs.Prelude.{is_some}
 use Rattle.std.specs.Str.{bytes_eq}
 use Rattle.std.specs.List.{count_by, filter, AllByRecursion as Each}

@@ -165,13 +165,13 @@ level a b o h = elim (cases_order a b) [
   ]
 ]
 
-falls : (rows : List Row) → IsSorted off_cmp rows → EachPair (λ (a b : Row). b.cell.tier ≤ a.cell.tier) rows
+pub falls : (rows : List Row) → IsSorted off_cmp rows → EachPair (λ (a b : Row). b.cell.tier ≤ a.cell.tier) rows
 falls rows sorted = pairs_from_index (λ (a b : Row). b.cell.tier ≤ a.cell.tier) rows (λ i j d lt low.
     let x = get_or rows i d in let y = get_or rows j d in
     level y.cell.tier x.cell.tier (place_cmp y.cell x.cell)
     (sorted_far (λ a b. is_lt (off_cmp a b)) (ranks_by off_total (λ (r : Row). r)) rows sorted i j d (omega arith) low))
 
-rises : (rows : List Row) → IsSorted on_cmp rows → EachPair (λ (a b : Row). a.cell.tier ≤ b.cell.tier) rows
+pub rises : (rows : List Row) → IsSorted on_cmp rows → EachPair (λ (a b : Row). a.cell.tier ≤ b.cell.tier) rows
 rises rows sorted = pairs_from_index (λ (a b : Row). a.cell.tier ≤ b.cell.tier) rows (λ i j d lt low.
     let x = get_or rows i d in let y = get_or rows j d in
     level x.cell.tier y.cell.tier (place_cmp y.cell x.cell)

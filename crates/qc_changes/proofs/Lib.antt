@@ -13,3 +13,5 @@ pub mod Tally
 pub mod CountLemmas
 pub mod ChangesLemmas
 pub mod ReadLemmas
+pub mod OrderLemmas
+pub mod AheadLemmas

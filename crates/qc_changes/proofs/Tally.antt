@@ -1,5 +1,5 @@
 -- How many of a list pass a test.
-use Rattle.std.proofs.Common.{◌≡◌, ◌∙◌, ◌⊎◌, ◌+◌, ◌≤◌, ◌++◌, ◌∷◌, [], zero, suc, ℕ, Bool, true, false, not, ◌&&◌, cond, List, length, refl, sym, ap, inl, inr, arith}
+use Rattle.std.proofs.Common.{◌≡◌, ◌∙◌, ◌⊎◌, ◌+◌, ◌++◌, ◌∷◌, [], suc, ℕ, Bool, true, false, not, ◌&&◌, cond, List, length, refl, ap, inl, inr, arith}
 use Rattle.std.specs.List.{count_by, filter, AllByRecursion as Each}
 use Rattle.std.proofs.lemmas.Bool.{cases_Bool}
 use Rattle.std.proofs.lemmas.List.Recursion.{is_count_by}

@@ -8,3 +8,4 @@ pub mod Plans
 pub mod Lifts
 pub mod Counts
 pub mod Changes
+pub mod Orders

@@ -1,4 +1,4 @@
-//! Laws of what is lifted, which no program calls.
+//! Laws of what is lifted and of the list, which no program calls.
 
 ghost use Rattle.std.specs.Prelude.{◌≡◌, ◌||◌, ℕ, false, All, List, Some, is_some};
 ghost use Rattle.qc_ship.specs.Cells.{CellView};
@@ -8,7 +8,9 @@ ghost use Rattle.qc_bayplan.specs.declared.plan.Container.{Container};
 ghost use Rattle.qc_changes.specs.declared.class.Class.TheVariants.{Staying};
 ghost use Rattle.qc_changes.specs.Classes.{AreLifted, class_of, stands};
 ghost use Rattle.qc_changes.specs.MoveList.{IsMoveList};
+ghost use Rattle.qc_changes.specs.Orders.{IsOrderOf};
 ghost use Rattle.qc_changes.specs.Over.{is_over};
+ghost use Rattle.qc_changes.specs.States.{Leads};
 
 /// Between any two plans exactly one set of containers must be lifted.
 fn one_set_is_lifted()
@@ -30,4 +32,12 @@ fn moves_leave_what_stays()
 fn each_id_has_a_class()
     ensures { (first second lifted : List Container) (id : List ℕ)
         → is_some (class_of first second lifted id) ≡ (is_some (stands first id) || is_some (stands second id)) }
+{}
+
+/// The moves of the list lead from the first plan to the second in every order in which each stands behind those that must be
+/// made ahead of it.
+fn other_orders_lead_there()
+    ensures { (first second lifted : List Container) (rows told : List Row) → AreContainers first
+        → AreContainers second → AreLifted first second lifted → IsMoveList first second lifted rows
+        → IsOrderOf rows told → Leads (stands first) told (stands second) }
 {}

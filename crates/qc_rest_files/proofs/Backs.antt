@@ -41,7 +41,7 @@ last_test test xs (suc i) d within passes =
     let size : length front ≡ suc i = length-take-le (suc i) xs within in
     let at : length front - 1 ≡ i = omega (arith, size) in
     let here = slice_get-get_or front (length front - 1) d (omega (arith, size))
-        ∙ ap (λ (k : ℕ). Some (get_or front k d)) at ∙ ap Some (get_or-take (suc i) xs i d (omega arith)) in
+    ∙ ap (λ (k : ℕ). Some (get_or front k d)) at ∙ ap Some (get_or-take (suc i) xs i d (omega arith)) in
     ap (λ (o : Option _). option_map_or test o true) here ∙ passes i (omega arith)
 
 -- no value ahead of a place passes a test

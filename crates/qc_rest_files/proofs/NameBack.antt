@@ -44,17 +44,17 @@ module _ (hatches : List ℕ) (low : Each (λ h. h ≤ greatest_hatch) hatches) 
   here : (phase : Phase) → name_in_phase hatches (name_text hatch phase) phase ≡ Some (record { hatch = hatch; phase = phase })
   here phase =
       rw (find_only (λ h. bytes_eq (name_text h phase) (name_text hatch phase)) hatches hatch at (one_text (name_text hatch phase))
-          (each_weaker (λ h. h ≤ greatest_hatch) (λ h. bytes_eq (name_text h phase) (name_text hatch phase) ≡ true → h ≡ hatch) hatches
-          (λ h small same. (same_parts h hatch phase phase small own (same_text _ _ same)).0) low)) refl
+      (each_weaker (λ h. h ≤ greatest_hatch) (λ h. bytes_eq (name_text h phase) (name_text hatch phase) ≡ true → h ≡ hatch) hatches
+      (λ h small same. (same_parts h hatch phase phase small own (same_text _ _ same)).0) low)) refl
 
   past : (phase p : Phase) → phase_rank p ≢ phase_rank phase → name_in_phase hatches (name_text hatch phase) p ≡ None
   past phase p other =
       rw (find_none (λ h. bytes_eq (name_text h p) (name_text hatch phase)) hatches
-          (each_weaker (λ h. h ≤ greatest_hatch) (λ h. bytes_eq (name_text h p) (name_text hatch phase) ≡ false) hatches
-          (λ h small. elim (cases_Bool (bytes_eq (name_text h p) (name_text hatch phase))) [
-            | inl same ↦ absurd (other (same_parts h hatch p phase small own (same_text _ _ same)).1)
-            | inr other_text ↦ other_text
-          ]) low)) refl
+      (each_weaker (λ h. h ≤ greatest_hatch) (λ h. bytes_eq (name_text h p) (name_text hatch phase) ≡ false) hatches
+      (λ h small. elim (cases_Bool (bytes_eq (name_text h p) (name_text hatch phase))) [
+        | inl same ↦ absurd (other (same_parts h hatch p phase small own (same_text _ _ same)).1)
+        | inr other_text ↦ other_text
+      ]) low)) refl
 
   pub name_back : (phase : Phase) → name_in hatches (name_text hatch phase) ≡ Some (record { hatch = hatch; phase = phase })
   name_back DeckOut = rw (here DeckOut) refl

@@ -255,7 +255,7 @@ module _ (ship : ShipView) (is : IsShip ship) where
     by b is_b =
         let ms = table_with b ship in
         from_parts ms (at_hatches b) (at_places b is_b) (at_times b is_b) (at_apart b) (at_before b) (at_not_before b)
-            (ap (λ (d : Bool). cranes_at d ship.gap ship.places ms) (gives b) ∙ at_cranes b is_b)
+        (ap (λ (d : Bool). cranes_at d ship.gap ship.places ms) (gives b) ∙ at_cranes b is_b)
         ∙ ap (λ (d : Bool). Ok (record ship { in_decimetres = d })) (gives b ∙ sym is_b)
 
     pub ship_back : ship_of (ship_table ship) ≡ Ok ship

@@ -22,8 +22,11 @@ abbrev pub release_of : Task → NameTick
 release_of t = record { name = record { hatch = t.hatch; phase = t.phase }; tick = t.release }
 
 -- one for each task that is held back, in their order
+abbrev pub is_held : Task → Bool
+is_held t = not (t.release == 0)
+
 abbrev pub releases_of : List Task → List NameTick
-releases_of tasks = map release_of (filter (λ t. not (t.release == 0)) tasks)
+releases_of tasks = map release_of (filter is_held tasks)
 
 -- the ship with the cranes and the releases of what is left, and the planner's own order as far as both tasks are left
 abbrev pub rest_ship : ShipView → InstanceView → ShipView

@@ -6,6 +6,7 @@
 #![tactic(auto)]
 
 mod cranes;
+mod laws;
 mod list;
 mod names;
 mod places;

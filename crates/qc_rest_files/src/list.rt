@@ -1,9 +1,10 @@
 //! Writing the moves that are left.
 
 ghost use Rattle.std.specs.Prelude.{◌≡◌, All, IsSome, Ok, OnOk};
-ghost use Rattle.std.specs.List.{AllByRecursion, flat_map};
-ghost use Rattle.qc_changes.specs.ListText.{IsPlain, list_text, row_line};
+ghost use Rattle.std.specs.List.{flat_map};
+ghost use Rattle.qc_changes.specs.ListText.{list_text};
 ghost use Rattle.qc_io.specs.Writes.{Writes};
+ghost use Rattle.qc_rest_files.specs.LeftLines.{IsPlainIfLeft, left_line};
 ghost use Rattle.qc_rest_files.specs.LeftRows.{is_move_of_any, left_rows};
 ghost use Rattle.qc_ship.specs.Ship.{ShipView, place_of_bay};
 ghost use Rattle.qc_stow.specs.Stow.{moves_in};
@@ -11,6 +12,7 @@ ghost use Rattle.qc_stow.specs.Stow.{moves_in};
 use qc_changes::{put_header, row_line};
 use qc_io::{Sink, WriteFault, put_all};
 use qc_model::{Instance, Task};
+use qc_num::Text;
 use qc_stow::{Moves, Row};
 use qc_tasks::is_move_of;
 
@@ -21,16 +23,26 @@ fn is_move_of_any(tasks: &[Task], row: &Row) -> bool
     tasks.iter().any(|task| is_move_of(task, row))
 }
 
+/// The line of a move of these tasks; empty for another.
+fn left_line(tasks: &[Task], row: &Row) -> Text<64>
+    ensures line { result ≡ left_line tasks.now row.now }
+    ensures plain { IsPlainIfLeft tasks.now row.now }
+{
+    if is_move_of_any(tasks, row) {
+        row_line(row)
+    } else {
+        Text::new()
+    }
+}
+
 /// Writes the lines of the moves of these tasks.
-fn put_left<K: Sink>(rows: &[Row], tasks: &[Task], sink: &mut K) -> Result<(), WriteFault>
+fn put_left<K: Sink>(tasks: &[Task], rows: &[Row], sink: &mut K) -> Result<(), WriteFault>
     ensures writes { Writes (K.view sink.old) (K.view sink.new)
-        (flat_map row_line (left_rows tasks.now rows.now)) result }
-    ensures plain { OnOk result (AllByRecursion IsPlain (left_rows tasks.now rows.now)) }
+        (flat_map (left_line tasks.now) rows.now) result }
+    ensures plain { OnOk result (All (IsPlainIfLeft tasks.now) rows.now) }
 {
     for row in rows {
-        if is_move_of_any(tasks, row) {
-            put_all(sink, row_line(row).as_bytes())?;
-        }
+        put_all(sink, left_line(tasks, row).as_bytes())?;
     }
     Ok(())
 }
@@ -47,5 +59,5 @@ pub fn write_stow<K: Sink>(moves: &Moves, rest: &Instance, sink: &mut K) -> Resu
         ≡ Ok (left_rows rest.now.tasks moves.now)) }
 {
     put_header(sink)?;
-    put_left(moves.rows(), rest.tasks(), sink)
+    put_left(rest.tasks(), moves.rows(), sink)
 }

@@ -2,7 +2,7 @@
 
 ghost use Rattle.std.specs.Prelude.{◌≡◌, ◌<◌, ◌^◌, IfOk, filter, map, string_bytes};
 ghost use Rattle.toml.specs.View.{view};
-ghost use Rattle.qc_rest_files.specs.RestShip.{are_named, is_named, release_of, releases_of};
+ghost use Rattle.qc_rest_files.specs.RestShip.{are_named, is_held, is_named, release_of, releases_of};
 ghost use Rattle.qc_rest_files.specs.ShipTable.{before_value, name_value, release_value};
 ghost use Rattle.qc_ship.specs.ShipFile.{name_text};
 ghost use Rattle.qc_tasks.specs.InstanceOf.{has_name};
@@ -73,6 +73,13 @@ fn release_value(alloc: Global, entry: NameTick) -> Result<Value, OutOfMemory>
     two_values(alloc, name, number_value(entry.tick))
 }
 
+/// Whether a task is held back.
+fn is_held(task: Task) -> bool
+    ensures { result ≡ is_held task }
+{
+    task.release != 0
+}
+
 /// The entry that holds a task back until its release.
 fn release_of(task: Task) -> NameTick
     ensures { result ≡ release_of task }
@@ -110,7 +117,7 @@ pub(crate) fn release_values(alloc: Global, inst: &Instance) -> Result<Vec<Value
     let mut values = Vec::new(alloc);
     for j in 0..inst.task_count() {
         let task = inst.task(j);
-        if task.release != 0 {
+        if is_held(task) {
             values.push(release_value(alloc, release_of(task))?)?;
         }
     }

@@ -32,6 +32,20 @@ fn put_ticks(alloc: Global, table: &mut Table, key: &str, ticks: Tick) -> Result
     put(alloc, table, key, number_value(ticks))
 }
 
+/// Puts numbers at a key.
+fn put_numbers(
+    alloc: Global,
+    table: &mut Table,
+    key: &str,
+    numbers: &[u16],
+) -> Result<(), OutOfMemory>
+    ensures { OnOk result (table_view table.new
+        ≡ with_member key.now (array_of number numbers.now) (table_view table.old)) }
+{
+    let values = number_values(alloc, numbers)?;
+    put(alloc, table, key, Value::Array(values))
+}
+
 /// Puts the ticks of the ship at their keys.
 fn put_times(alloc: Global, table: &mut Table, ship: &Ship) -> Result<(), OutOfMemory>
     ensures { OnOk result (table_view table.new ≡ with_member (codes "travel") (number ship.now.travel)
@@ -59,6 +73,20 @@ fn put_restows(alloc: Global, table: &mut Table, ship: &Ship) -> Result<(), OutO
     )
 }
 
+/// The least distance of cranes as a value.
+fn clear_value(ship: &Ship) -> Value
+    ensures { view result ≡ number ship.now.gap }
+{
+    Value::Integer(i64::from(ship.margin()) + 1)
+}
+
+/// The margin as a value: how many bays neighbouring cranes keep free.
+fn margin_value(ship: &Ship) -> Value
+    ensures { view result ≡ number (ship.now.gap - 1) }
+{
+    Value::Integer(i64::from(ship.margin()))
+}
+
 /// Puts the distance of cranes at its key, and the places of the hatches where the file gives them.
 fn put_distance(
     alloc: Global,
@@ -71,17 +99,11 @@ fn put_distance(
         (with_member (codes "clear") (number ship.now.gap) (table_view table.old))
         else with_member (codes "margin") (number (ship.now.gap - 1)) (table_view table.old)) }
 {
-    let margin = i64::from(ship.margin());
     if in_decimetres {
-        put(alloc, table, "clear", Value::Integer(margin + 1))?;
-        put(
-            alloc,
-            table,
-            "places",
-            Value::Array(number_values(alloc, ship.places())?),
-        )
+        put(alloc, table, "clear", clear_value(ship))?;
+        put_numbers(alloc, table, "places", ship.places())
     } else {
-        put(alloc, table, "margin", Value::Integer(margin))
+        put(alloc, table, "margin", margin_value(ship))
     }
 }
 
@@ -98,8 +120,7 @@ fn put_lists(
         (with_member (codes "apart") (array_of apart_value ship.now.apart)
         (with_member (codes "hatches") (array_of number ship.now.hatches) (table_view table.old))))) }
 {
-    let hatches = number_values(alloc, ship.hatches())?;
-    put(alloc, table, "hatches", Value::Array(hatches))?;
+    put_numbers(alloc, table, "hatches", ship.hatches())?;
     let apart = apart_values(alloc, ship.apart())?;
     put(alloc, table, "apart", Value::Array(apart))?;
     let before = before_values(alloc, ship.before(), rest.tasks())?;
