@@ -43,7 +43,8 @@ module _ (ship : ShipView) (rest : InstanceView) (is : IsShip ship) (valid : Val
   order_kept : HasOrder new
   order_kept = record {
     count = omega (arith, is.before.count, few_passed (are_named rest.tasks) ship.before);
-    names = All-filter (are_named rest.tasks) _ ship.before is.before.names;
+    names = All-filter (are_named rest.tasks) (λ (pair : NamePair). Contains ship.hatches pair.first.hatch × Contains ship.hatches pair.second.hatch × (pair.first ≢ pair.second))
+        ship.before is.before.names;
   }
 
   abbrev IsFree : Task → Type 0
@@ -77,7 +78,7 @@ module _ (ship : ShipView) (rest : InstanceView) (is : IsShip ship) (valid : Val
         count = omega (arith, length-map some release_of, few_passed is_held rest.tasks, valid.tasks.count);
         range = All-map (λ (entry : NameTick). Contains ship.hatches entry.name.hatch × (entry.tick ≤ most_ready)) release_of some (All-filter is_held IsFree rest.tasks all_free);
         once = pairs_by_index R (map release_of some)
-            (pair_map R release_of some (pairs_from_index (λ (t u : Task). R (release_of t) (release_of u)) some (AllPairs-filter _ is_held rest.tasks sorted)));
+            (pair_map R release_of some (pairs_from_index (λ (t u : Task). R (release_of t) (release_of u)) some (AllPairs-filter (λ (t u : Task). R (release_of t) (release_of u)) is_held rest.tasks sorted)));
       }
 
   abbrev Apart : Crane → Crane → Type 0

@@ -13,6 +13,7 @@ use Rattle.qc_num.specs.Reading.{each}
 use Rattle.qc_rest_files.specs.LeftLines.{IsPlainIfLeft, left_line}
 use Rattle.qc_rest_files.proofs.KeptLemmas.{few_passed}
 use Rattle.qc_rest_files.specs.LeftRows.{is_move_of_any, left_rows}
+use Rattle.qc_ship.specs.Cells.{overlap}
 use Rattle.qc_ship.specs.Ship.{ShipView, place_of_bay}
 use Rattle.qc_stow.specs.Moves.{AreMoves}
 use Rattle.qc_stow.specs.Stow.{moves_in, numbered, over_hatch}
@@ -58,8 +59,8 @@ module _ (tasks : List Task) where
   moves_left : (rows : List Row) → AreMoves rows → AreMoves (left_rows tasks rows)
   moves_left rows are = record {
     count = omega (arith, are.count, few_passed (is_move_of_any tasks) rows);
-    ids = AllPairs-filter _ (is_move_of_any tasks) rows are.ids;
-    apart = AllPairs-filter _ (is_move_of_any tasks) rows are.apart;
+    ids = AllPairs-filter (λ (a b : Row). a.kind ≡ b.kind → a.id ≢ b.id) (is_move_of_any tasks) rows are.ids;
+    apart = AllPairs-filter (λ (a b : Row). a.kind ≡ b.kind → overlap b.cell a.cell ≡ false) (is_move_of_any tasks) rows are.apart;
   }
 
   -- a reader for a ship that has a hatch for each reads them as they are

@@ -1,5 +1,5 @@
 -- What a ship that was read says of the table that it was read of.
-use Rattle.std.proofs.Common.{◌≡◌, ℕ, Bool, false, List, Option, Some, None, Ok, IsUtf8, ap, inl, inr, ok_or}
+use Rattle.std.proofs.Common.{◌≡◌, ℕ, Bool, false, List, Option, Some, None, Ok, IsUtf8, length, ap, inl, inr, ok_or}
 use Rattle.std.specs.Str.{is_utf8}
 use Rattle.std.proofs.lemmas.Bool.{cases_Bool}
 use Rattle.std.proofs.lemmas.Str.{IsUtf8-from_is_utf8}
@@ -8,7 +8,7 @@ use Rattle.qc_num.proofs.ReadingLemmas.{bind_ok, same_ok}
 use Rattle.toml.specs.Data.{Members}
 use Rattle.qc_ship.specs.Keys.{fault}
 use Rattle.qc_ship.specs.Ship.{ShipView}
-use Rattle.qc_ship.specs.ShipFile.{gives_places, hatches_at, ship_file, ship_of, table_of}
+use Rattle.qc_ship.specs.ShipFile.{apart_at, before_at, cranes_at, gives_places, hatches_at, not_before_at, places_at, ship_file, ship_of, table_of, times_at}
 use Rattle.qc_ship.specs.declared.fault.Key.TheVariants as key
 use Rattle.qc_ship.specs.declared.fault.ShipKind.TheVariants as kind
 
@@ -16,12 +16,12 @@ given_by : (ms : Members) (ship : ShipView) → ship_of ms ≡ Ok ship → gives
 unfolding ship_of
 given_by ms ship e =
     let (hatches, at_hatches, e1) = bind_ok (hatches_at ms) _ ship e in
-    let (places, at_places, e2) = bind_ok _ _ ship e1 in
-    let (times, at_times, e3) = bind_ok _ _ ship e2 in
-    let (apart, at_apart, e4) = bind_ok _ _ ship e3 in
-    let (before, at_before, e5) = bind_ok _ _ ship e4 in
-    let (not_before, at_not_before, e6) = bind_ok _ _ ship e5 in
-    let (cranes, at_cranes, e7) = bind_ok _ _ ship e6 in
+    let (places, at_places, e2) = bind_ok (places_at (length hatches) ms) _ ship e1 in
+    let (times, at_times, e3) = bind_ok (times_at ms) _ ship e2 in
+    let (apart, at_apart, e4) = bind_ok (apart_at hatches ms) _ ship e3 in
+    let (before, at_before, e5) = bind_ok (before_at hatches ms) _ ship e4 in
+    let (not_before, at_not_before, e6) = bind_ok (not_before_at hatches ms) _ ship e5 in
+    let (cranes, at_cranes, e7) = bind_ok (cranes_at (gives_places ms) times.gap places ms) _ ship e6 in
     ap (λ (s : ShipView). s.in_decimetres) (same_ok e7)
 
 -- by the table of the file, if it has one

@@ -22,6 +22,7 @@ module _ {X : Type 0} (f : X → Data) (xs : List X) (i : ℕ) (x : X) (lt : i <
       map-append view vs (v ∷ []) ∙ rw (so_far, here) refl ∙ sym (map-append f (filter p (take i xs)) one)
       ∙ ap (λ (more : List X). map f (filter p (take i xs) ++ more)) (ap (λ (b : Bool). cond b one []) (sym yes_it)) ∙ ap (map f) (sym (filter_more p xs i x lt))
 
+module _ {X : Type 0} (f : X → Data) (xs : List X) (i : ℕ) (x : X) (lt : i < length xs) (vs : List Value) where
   pub value_failed : (p : X → Bool) → map view vs ≡ map f (filter p (take i xs)) → p (get_or xs i x) ≡ false
       → map view vs ≡ map f (filter p (take (i + 1) xs))
   value_failed p so_far no_it =

@@ -1,7 +1,8 @@
 //! The cranes of a ship file.
 
-ghost use Rattle.std.specs.Prelude.{◌≡◌, ◌≤◌, ◌<◌, ◌+◌, ℕ, codes, pos, IfOk, IsTrue, OnOk, length, map};
-ghost use Rattle.toml.specs.Data.{integer, no_members, string};
+ghost use Rattle.std.specs.Prelude.{◌≡◌, ◌≤◌, ◌<◌, ◌+◌, ℕ, codes, pos, IfOk, IfSome, IsTrue, OnOk, length, map, position};
+ghost use Rattle.std.specs.Ordering.{int_eq};
+ghost use Rattle.toml.specs.Data.{string};
 ghost use Rattle.toml.specs.View.{table_view, view};
 ghost use Rattle.qc_make.specs.MadeTable.{with_member};
 ghost use Rattle.qc_model.specs.Instance.{crane};
@@ -15,13 +16,28 @@ use qc_num::{Bay, OutOfMemory};
 use std::alloc::Global;
 use toml::{Table, Value};
 
+/// Whether a place is this one.
+fn is_at(p: u16, place: Bay) -> bool
+    ensures { result ≡ int_eq (pos p) place }
+{
+    Bay::from(p) == place
+}
+
+/// The number, from 0, of the hatch at a place.
+fn hatch_of(places: &[u16], place: Bay) -> Option<usize>
+    ensures hatch { result ≡ position (λ p. int_eq (pos p) place) places.now }
+    ensures bound { IfSome result (λ k. k < length places.now) }
+{
+    places.iter().position(|p| is_at(*p, place))
+}
+
 /// The number, from 1, of the hatch at a place; 0 where no hatch is there.
 fn hatch_at(places: &[u16], place: Bay) -> u64
     requires { length places.now ≤ MOST_HATCHES }
     ensures hatch { result ≡ hatch_at places.now place }
     ensures most { result ≤ MOST_HATCHES }
 {
-    match places.iter().position(|p| Bay::from(*p) == place) {
+    match hatch_of(places, place) {
         Some(before) => before as u64 + 1,
         None => 0,
     }

@@ -20,7 +20,7 @@ loop-k-preserved c = (
 )
 
 pub returns-clause-values : goal.returns-clause-values
-returns-clause-values c = c.loop-k.invariant.0 ∙ ap (map (crane_value c.args.places.now)) (take_all c.loop-k.k c.args.inst.now.cranes (omega (arith, c.crane_count.ensures.count)))
+returns-clause-values c = c.loop-k.invariant.0 ∙ ap (map (crane_value c.args.places.now)) (take_all c.loop-k.k c.args.inst.now.cranes (omega (arith, c.crane_count-k-end.ensures.count)))
 
 pub returns-clause-names : goal.returns-clause-names
-returns-clause-names c = λ k lt. c.loop-k.invariant.1 k (omega (arith, c.crane_count.ensures.count, lt))
+returns-clause-names c = λ k lt. c.loop-k.invariant.1 k (omega (arith, c.crane_count-k-end.ensures.count, lt))

@@ -9,11 +9,11 @@ travel_low false = omega arith
 pub put_ticks-requires : goal.put_ticks-requires
 put_ticks-requires c = omega (arith, c.cover.ensures.cover, c.cover.ensures.ship.times.cover)
 
-pub put_ticks-2-requires : goal.put_ticks-2-requires
-put_ticks-2-requires c = omega (arith, c.deck_move.ensures.deck_move, c.deck_move.ensures.ship.times.deck_move.1)
+pub put_ticks-requires-2 : goal.put_ticks-requires-2
+put_ticks-requires-2 c = omega (arith, c.deck_move.ensures.deck_move, c.deck_move.ensures.ship.times.deck_move.1)
 
-pub put_ticks-3-requires : goal.put_ticks-3-requires
-put_ticks-3-requires c = omega (arith, c.hold_move.ensures.hold_move, c.hold_move.ensures.ship.times.hold_move.1)
+pub put_ticks-requires-3 : goal.put_ticks-requires-3
+put_ticks-requires-3 c = omega (arith, c.hold_move.ensures.hold_move, c.hold_move.ensures.ship.times.hold_move.1)
 
-pub put_ticks-4-requires : goal.put_ticks-4-requires
-put_ticks-4-requires c = omega (arith, c.travel.ensures.travel, c.travel.ensures.ship.times.travel.1, travel_low c.args.ship.now.in_decimetres)
+pub put_ticks-requires-4 : goal.put_ticks-requires-4
+put_ticks-requires-4 c = omega (arith, c.travel.ensures.travel, c.travel.ensures.ship.times.travel.1, travel_low c.args.ship.now.in_decimetres)

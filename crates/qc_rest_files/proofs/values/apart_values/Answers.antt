@@ -7,5 +7,4 @@ use Rattle.qc_rest_files.proofs.values.apart_values.Goals as goal
 pub loop-pair-preserved : goal.loop-pair-preserved
 loop-pair-preserved c =
     ap (map view) c.in_ok-push.ensures.items
-    ∙ value_more apart_value c.args.pairs.now c.loop-pair.pair-index c.pair-item.result c.loop-pair-test.true c.loop-pair.values.items _ c.loop-pair.invariant
-    (c.in_ok-apart_value.ensures ∙ ap apart_value c.pair-item.is)
+    ∙ value_more apart_value c.args.pairs.now c.loop-pair.pair-index (record { a = 0; b = 0 }) c.loop-pair-test.true c.loop-pair.values.items _ c.loop-pair.invariant (c.in_ok-apart_value.ensures)
