@@ -6,7 +6,7 @@ use Rattle.qc_num.specs.declared.bound.Bound.{Bound}
 use Rattle.qc_num.specs.declared.bound.Bound.TheVariants.{Least, Never}
 use Rattle.qc_model.specs.declared.schedule.Slot.{Slot}
 use Rattle.qc_model.specs.declared.turn.Turn.{Turn}
-use Rattle.qc_model.specs.Instance.{InstanceView}
+use Rattle.qc_model.specs.Instance.{InstanceView, Valid}
 use Rattle.qc_model.specs.Judge.{IsJudgeable}
 use Rattle.qc_model.specs.OneWay.{IsAllowed}
 use Rattle.qc_search.specs.declared.done.Kind.{Kind}
@@ -197,9 +197,9 @@ own_none inst nodes own tree done found none = by own (own_end inst nodes own tr
 
 -- ---- what holds of an answer by itself
 
-sound_plan : (inst : InstanceView) (done : DoneView) (told : Planned) (asked : Turn) → inst.turn ≡ asked
+sound_plan : (inst : InstanceView) (done : DoneView) (told : Planned) (asked : Turn) → Valid inst → inst.turn ≡ asked
     → NoneEarlier inst done.bound → IfSome done.best (IsTight inst) → TellsPlan inst done told → IsSoundPlan asked told
-sound_plan inst done told asked is none tight tells =
+sound_plan inst done told asked valid is none tight tells =
     let goes : IsAllowed inst tells.sched =
     tight_allowed inst tells.sched (of_some (IsTight inst) done.best tells.sched tells.best tight) in
     let late : NoneEarlier inst (Least told.bound) = subst (NoneEarlier inst) tells.bound none in
@@ -209,6 +209,7 @@ sound_plan inst done told asked is none tight tells =
     let end : told.end ≡ ends told.inst told.sched =
     subst₂ (λ (i : InstanceView) (s : List Slot). told.end ≡ ends i s) same_inst same_sched tells.end in
     record {
+      valid = subst Valid same_inst valid;
       turn_told = ap (λ (i : InstanceView). i.turn) tells.inst_told ∙ is;
       allowed = subst₂ (λ (i : InstanceView) (s : List Slot). IsAllowed i s) same_inst same_sched goes;
       end = end;
@@ -218,14 +219,14 @@ sound_plan inst done told asked is none tight tells =
       by = omega (arith, by, tells.end);
     }
 
-pub sound_answer : (inst : InstanceView) (done : DoneView) (asked : Turn) → inst.turn ≡ asked
+pub sound_answer : (inst : InstanceView) (done : DoneView) (asked : Turn) → Valid inst → inst.turn ≡ asked
     → NoneEarlier inst done.bound → IfSome done.best (IsTight inst) → (a : PlanAnswer) → Tells inst done a
     → IsSoundAnswer asked a
-sound_answer inst done asked is none tight answer.WriteFault tells = tt
-sound_answer inst done asked is none tight (answer.Broken broken) tells = tt
-sound_answer inst done asked is none tight (answer.Planned told) tells = sound_plan inst done told asked is none tight tells
-sound_answer inst done asked is none tight (answer.Unplanned bound branched) tells = tt
-sound_answer inst done asked is none tight (answer.Infeasible branched) tells = tt
+sound_answer inst done asked valid is none tight answer.WriteFault tells = tt
+sound_answer inst done asked valid is none tight (answer.Broken broken) tells = tt
+sound_answer inst done asked valid is none tight (answer.Planned told) tells = sound_plan inst done told asked valid is none tight tells
+sound_answer inst done asked valid is none tight (answer.Unplanned bound branched) tells = tt
+sound_answer inst done asked valid is none tight (answer.Infeasible branched) tells = tt
 
 -- ---- what is written is read again
 

@@ -5,7 +5,7 @@ use Rattle.qc_freemove.specs.FreeMotion.{IsFreeSafe}
 use Rattle.qc_model.specs.declared.schedule.Slot.{Slot}
 use Rattle.qc_model.specs.declared.turn.Turn.{Turn}
 use Rattle.qc_model.specs.declared.turn.Turn.TheVariants as turn
-use Rattle.qc_model.specs.Instance.{InstanceView}
+use Rattle.qc_model.specs.Instance.{InstanceView, Valid}
 use Rattle.qc_model.specs.Judge.{IsDirection}
 use Rattle.qc_model.specs.Motion.{IsSafe}
 use Rattle.qc_model.specs.OneWay.{IsAllowed}
@@ -49,9 +49,10 @@ pub record TellsPlan (inst : InstanceView) (done : DoneView) (told : Planned) : 
   pub safe : MovesSafely inst.turn inst sched told.motion
   pub reread : IsReread inst sched
 
--- what is told of a plan holds by itself, over a shelf that tells nothing too: cranes may follow its schedule, with this
--- turn, it ends then, and its motion is safe; none that they may follow ends before the bound
+-- what is told of a plan holds by itself, over a shelf that tells nothing too: its instance is valid, cranes may follow its
+-- schedule, with this turn, it ends then, and its motion is safe; none that they may follow ends before the bound
 pub record IsSoundPlan (asked : Turn) (told : Planned) : Type 0 where
+  pub valid : Valid told.inst
   pub turn_told : told.inst.turn ≡ asked
   pub allowed : IsAllowed told.inst told.sched
   pub end : told.end ≡ ends told.inst told.sched

@@ -75,7 +75,7 @@ returns-in-Ok-clause-stored g c =
             c.args.search c.requires.search (view c.run_search.new.shelf).files (view c.store_best.new.shelf).files
             _ searched done a searched.ok c.in-Ok.ensures.ok tells)
             (c.in-Ok.ensures.unmade c.in_ok-done.ensures.unmade)
-            (sound_answer job.inst done (planning c.args.asked.now).inputs.turn c.requires.turn sound.none_earlier
+            (sound_answer job.inst done (planning c.args.asked.now).inputs.turn c.requires.valid c.requires.turn sound.none_earlier
             sound.tight a tells),
         c.in-Ok.ensures.read_faults ∙ c.run_search.ensures.read_faults ∙ c.create.ensures.read_faults_stay,
       );
