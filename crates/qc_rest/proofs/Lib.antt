@@ -12,11 +12,15 @@ pub mod RestLemmas
 pub mod EndLemmas
 pub mod ValidLemmas
 pub mod RemainingLemmas
+pub mod PassLemmas
+pub mod RangeLemmas
 pub mod KeptLemmas
 pub mod LatestLemmas
 pub mod JournalLemmas
-pub mod PassLemmas
 pub mod GoneLemmas
 pub mod LastLemmas
-pub mod RangeLemmas
+pub mod PlacingLemmas
+pub mod MakingLemmas
 pub mod BerthLemmas
+pub mod FollowLemmas
+pub mod WholeLemmas

@@ -1,5 +1,5 @@
 -- The old order is a feasible schedule of the rest.
-use Rattle.std.proofs.Common.{◌≡◌, ◌≢◌, ℕ, ◌+◌, ◌*◌, ◌<◌, ◌≤◌, ℤ, ◌≤ℤ◌, inl, inr, List, length, true, refl, sym, ap, subst, ◌∙◌, arith}
+use Rattle.std.proofs.Common.{◌≡◌, ◌≢◌, ℕ, ◌+◌, ◌*◌, ◌<◌, ◌≤◌, ℤ, ◌≤ℤ◌, ◌<ℤ◌, inl, inr, List, length, true, refl, sym, ap, subst, ◌∙◌, arith}
 use Rattle.std.proofs.lemmas.Bool.{false≢true}
 use Rattle.qc_dispatch.specs.declared.stage.Stage.{Stage}
 use Rattle.qc_dispatch.specs.declared.stage.Stage.TheVariants.{Waiting, Running, Ended}
@@ -9,7 +9,10 @@ use Rattle.qc_dispatch.specs.Promises.{Keeps}
 use Rattle.qc_dispatch.proofs.OrderLemmas.{before_leads, one_leads}
 use Rattle.qc_model.specs.declared.schedule.Slot.{Slot}
 use Rattle.qc_model.specs.declared.task.Task.{Task}
-use Rattle.qc_model.specs.Bays.{bays_between}
+use Rattle.std.proofs.Math.Nat.{mul-le-mul_left}
+use Rattle.qc_model.specs.Bays.{bays_between, bays_up}
+use Rattle.qc_model.specs.OneWay.{KeepsClimb, KeepsLead, Upward}
+use Rattle.qc_model.proofs.Bays.{bays}
 use Rattle.qc_model.specs.Instance.{InstanceView, Valid, bay_of, crane, ticks_of}
 use Rattle.qc_model.specs.Rules.{Feasible, IsClear, KeepsApart, KeepsBefore, KeepsBerth, KeepsMargin, KeepsReach, KeepsReady, KeepsTravel, crane_of, end_of, slot_distance, start_of}
 use Rattle.qc_model.specs.Ticks.{distance, travel_between}
@@ -27,6 +30,11 @@ pub is_left : (s : Stage) → is_waiting s ≡ true → s ≡ Waiting
 is_left Waiting h = refl
 is_left (Running start) h = absurd (false≢true h)
 is_left (Ended start end) h = absurd (false≢true h)
+
+up_within : (t : ℕ) (x y : ℤ) → t * bays_up x y ≤ t * bays_between x y
+up_within t x y =
+    let e : bays_up x y ≤ bays_between x y = omega (arith, bays) in
+    mul-le-mul_left t e
 
 module _ (c : Course) (over : ℕ → ℕ) (stands : List Stand) (places : ℕ → ℤ) (rest : InstanceView) (sched : List Slot)
     (valid : Valid c.inst) (plan : Feasible c.inst c.plan) (keeps : Keeps c)
@@ -156,4 +164,51 @@ module _ (c : Course) (over : ℕ → ℕ) (stands : List Stand) (places : ℕ �
     apart = by_numbers (KeepsApart rest sched) apart_now;
     margin = by_numbers (KeepsMargin rest sched) margin_now;
     berth = λ a v low high. by_number (λ b. KeepsBerth rest sched b v) (λ j waits. berth_now j waits v high) a low;
+  }
+
+  -- ---- upward
+
+  module _ (upward : Upward c.inst c.plan) (i j : ℕ) (here : IsLeft c i) (there : IsLeft c j) where
+    climb_now : KeepsClimb rest sched (number_of c i) (number_of c j)
+    climb_now same less =
+        let one : crane_of c.plan i ≡ crane_of c.plan j = sym (old.cranes i here) ∙ same ∙ old.cranes j there in
+        let above : bay_of c.inst i <ℤ bay_of c.inst j = rw (bay_at i here, bay_at j there) at less in
+        let planned = upward.one_crane i j here.task there.task one above in
+        let leads : Leads c.inst c.plan i j = record {
+          leader = here.task;
+          led = there.task;
+          sooner = omega (arith, planned, valid.tasks.ticks i here.task);
+          tied = inr (inr (inl one));
+        } in
+        let way : rest.travel * bays_up (bay_of rest (number_of c i)) (bay_of rest (number_of c j)) ≡ c.inst.travel * bays_up (bay_of c.inst i) (bay_of c.inst j) =
+        ap (λ (x : ℤ). rest.travel * bays_up x (bay_of rest (number_of c j))) (bay_at i here)
+        ∙ ap (λ (y : ℤ). rest.travel * bays_up (bay_of c.inst i) y) (bay_at j there)
+        ∙ ap (λ (t : ℕ). t * bays_up (bay_of c.inst i) (bay_of c.inst j)) exact.is.travel in
+        omega (arith, ahead i j here there leads, ticks_at i here, way, gap_of_one c.inst c.plan i j one, up_within c.inst.travel (bay_of c.inst i) (bay_of c.inst j))
+
+    lead_now : KeepsLead rest sched (number_of c i) (number_of c j)
+    lead_now lower near =
+        let v = crane_of sched (number_of c i) in
+        let u = crane_of sched (number_of c j) in
+        let e : slot_distance rest sched (number_of c i) (number_of c j) ≡ slot_distance c.inst c.plan i j =
+        ap (λ (x : ℤ). distance rest v x u (bay_of rest (number_of c j))) (bay_at i here)
+        ∙ ap (distance rest v (bay_of c.inst i) u) (bay_at j there)
+        ∙ distance_same rest c.inst exact.is.travel exact.is.gap v (bay_of c.inst i) u (bay_of c.inst j)
+        ∙ distance_at c.inst v u (crane_of c.plan i) (crane_of c.plan j) (bay_of c.inst i) (bay_of c.inst j) (old.cranes i here) (old.cranes j there) in
+        let order : crane_of c.plan j < crane_of c.plan i = omega (arith, lower, old.cranes i here, old.cranes j there) in
+        let far : 0 < slot_distance c.inst c.plan i j = omega (arith, near, e) in
+        let planned = upward.two_cranes i j here.task there.task order far in
+        let leads : Leads c.inst c.plan i j = record {
+          leader = here.task;
+          led = there.task;
+          sooner = omega (arith, planned, valid.tasks.ticks i here.task);
+          tied = inr (inr (inr far));
+        } in
+        omega (arith, ahead i j here there leads, ticks_at i here, e, gap_of_two c.inst c.plan i j (λ same. omega (arith, order, same)))
+
+  -- the old order goes up where the plan does
+  pub old_upward : Upward c.inst c.plan → Upward rest sched
+  old_upward upward = record {
+    one_crane = by_numbers (KeepsClimb rest sched) (climb_now upward);
+    two_cranes = by_numbers (KeepsLead rest sched) (lead_now upward);
   }

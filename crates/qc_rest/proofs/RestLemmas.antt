@@ -126,7 +126,7 @@ waits_there (Running start) waits = absurd (false≢true waits)
 waits_there (Ended start end) waits = absurd (false≢true waits)
 
 module _ (c : Course) where
-  holds_test : (i j : ℕ) → HoldsBack c i j → holds_back c i j ≡ true
+  pub holds_test : (i j : ℕ) → HoldsBack c i j → holds_back c i j ≡ true
   holds_test i j holds = and_from (is_running (stage_of c i)) _ (ap is_running holds.runs) (by holds.first)
     where
       by : IsBefore c.inst i j ⊎ ArePaired c.inst i j → (is_before c.inst i j || (is_apart c.inst i j || is_apart c.inst j i)) ≡ true
@@ -134,7 +134,7 @@ module _ (c : Course) where
       by (inr (inl is)) = or_right (is_before c.inst i j) _ (or_left (is_apart c.inst i j) _ (paired_found c.inst.apart i j is))
       by (inr (inr is)) = or_right (is_before c.inst i j) _ (or_right (is_apart c.inst i j) _ (paired_found c.inst.apart j i is))
 
-  test_holds : (i j : ℕ) → i < length c.inst.tasks → holds_back c i j ≡ true → HoldsBack c i j
+  pub test_holds : (i j : ℕ) → i < length c.inst.tasks → holds_back c i j ≡ true → HoldsBack c i j
   test_holds i j low t =
       let parts = and_parts (is_running (stage_of c i)) _ t in
       let runs = runs_since (stage_of c i) parts.0 in

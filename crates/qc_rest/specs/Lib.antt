@@ -7,9 +7,15 @@ pub mod Rest
 pub mod RestOf
 pub mod OldOrder
 pub mod Joined
-pub mod Fit
 pub mod Known
 pub mod Passing
 pub mod Passed
+pub mod Fit
 pub mod Going
+pub mod Limits
+pub mod Making
+pub mod Following
+pub mod Whole
+pub mod Found
 pub mod Lasting
+pub mod Unfit

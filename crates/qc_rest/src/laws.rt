@@ -8,6 +8,7 @@ ghost use Rattle.qc_dispatch.specs.Worked.{with_tasks};
 ghost use Rattle.qc_model.specs.declared.schedule.Slot.{Slot};
 ghost use Rattle.qc_model.specs.declared.task.Task.{Task};
 ghost use Rattle.qc_model.specs.Instance.{HasPlaceLimits, InstanceView, Valid, crane};
+ghost use Rattle.qc_model.specs.OneWay.{GoesUp};
 ghost use Rattle.qc_model.specs.Rules.{Feasible, end_of, ends, start_of};
 ghost use Rattle.qc_rest.specs.declared.stand.Stand.{Stand};
 ghost use Rattle.qc_rest.specs.Fit.{IsBerth, IsReadySoon};
@@ -101,6 +102,13 @@ fn the_old_order_is_late_by_less_than_a_bay()
         → IsExactRest o.course o.over o.stands places rest → (sched : List Slot) → IsOldOrder o.course rest sched
         → (j : ℕ) → IsLeft o.course j
         → o.course.clock + start_of sched (number_of o.course j) < o.goes j + o.course.inst.travel }
+{}
+
+/// The old order goes up in the rest where the plan goes up in the whole.
+fn the_old_order_goes_up_where_the_plan_does()
+    ensures { (c : Course) (over : ℕ → ℕ) (stands : List Stand) (places : ℕ → ℤ) (rest : InstanceView)
+        (sched : List Slot) → Valid c.inst → GoesUp c.inst c.plan → Keeps c → IsExactRest c over stands places rest
+        → IsOldOrder c rest sched → GoesUp rest sched }
 {}
 
 /// A log tells when each task that has begun is over, where none that runs is due.
