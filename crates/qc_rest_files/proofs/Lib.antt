@@ -1,0 +1,9 @@
+pub mod Backs
+pub mod KeptLemmas
+pub mod NameBack
+pub mod ShipBack
+pub mod LeftLemmas
+pub mod PlacesLemmas
+pub mod TableLemmas
+pub mod TextLemmas
+pub mod ValueLemmas
