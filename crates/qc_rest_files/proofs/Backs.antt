@@ -1,5 +1,5 @@
 -- Values that were written are read as what they were.
-use Rattle.std.proofs.Common.{◌≡◌, ℕ, zero, suc, ◌+◌, ◌-◌, ◌<◌, ◌≤◌, ℤ, pos, ◌≤ℤ◌, Bool, true, false, ◌&&◌, List, [], ◌∷◌, ◌++◌, length, map, take, drop, get_or, Option, Some, None, Result, Ok, Err, refl, sym, ap, subst, ◌∙◌, inl, inr, arith, All, Contains, find, int_le, nat_le, unsigned_abs}
+use Rattle.std.proofs.Common.{◌≡◌, ℕ, zero, suc, ◌+◌, ◌-◌, ◌<◌, ◌≤◌, ℤ, pos, ◌≤ℤ◌, Bool, true, false, List, [], ◌∷◌, ◌++◌, length, map, take, drop, get_or, Option, Some, None, Result, Ok, refl, sym, ap, subst, ◌∙◌, inl, inr, arith, Contains, find, int_le, nat_le}
 use Rattle.std.specs.Option.{option_map_or}
 use Rattle.std.specs.List.{AllByRecursion as Each, list_any}
 use Rattle.std.proofs.lemmas.Bool.{cases_Bool, false≢true}
@@ -9,7 +9,7 @@ use Rattle.std.proofs.lemmas.List.{drop_all, drop_more, get_or-take, get_or_defa
 use Rattle.std.proofs.lemmas.List.Folds.{list_any_none}
 use Rattle.std.proofs.lemmas.Option.{slice_get-get_or}
 use Rattle.qc_num.specs.Reading.{◌>>=◌, each}
-use Rattle.toml.specs.Data.{Data, integer, array}
+use Rattle.toml.specs.Data.{Data, integer}
 use Rattle.toml.specs.View.{items_of}
 use Rattle.qc_ship.specs.declared.fault.Key.{Key}
 use Rattle.qc_ship.specs.ShipValues.{array_in, elements, integer_in, last, number_in}

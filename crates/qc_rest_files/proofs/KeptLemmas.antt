@@ -1,7 +1,7 @@
 -- The ship of what is left keeps the limits of ships.
-use Rattle.std.proofs.Common.{◌≡◌, ◌≢◌, ℕ, zero, suc, ◌+◌, ◌-◌, ◌*◌, ◌<◌, ◌≤◌, ℤ, pos, ◌+ℤ◌, ◌≤ℤ◌, Bool, true, false, not, ◌==◌, List, [], ◌∷◌, length, map, get_or, All, AllPairs, Contains, refl, sym, ap, subst, ◌∙◌, inl, inr, arith}
+use Rattle.std.proofs.Common.{◌≡◌, ◌≢◌, ℕ, zero, suc, ◌+◌, ◌-◌, ◌<◌, ◌≤◌, pos, ◌+ℤ◌, ◌≤ℤ◌, Bool, List, [], ◌∷◌, length, map, get_or, All, AllPairs, Contains, ap, subst, inl, inr, arith}
 use Rattle.std.specs.List.{filter}
-use Rattle.std.proofs.lemmas.Bool.{cases_Bool, cases_lt}
+use Rattle.std.proofs.lemmas.Bool.{cases_Bool}
 use Rattle.std.proofs.lemmas.Int.{ints}
 use Rattle.std.proofs.lemmas.List.{get_or_default, length-map}
 use Rattle.std.proofs.lemmas.List.Elements.{All-filter, All-map}
@@ -11,14 +11,13 @@ use Rattle.qc_model.specs.declared.task.Task.{Task}
 use Rattle.qc_model.specs.Instance.{InstanceView, Valid, crane, no_crane, no_task, task}
 use Rattle.qc_model.specs.Numbers.{most_ready}
 use Rattle.qc_model.specs.Tasks.{phase_rank, task_rank}
-use Rattle.qc_ship.specs.Numbers.{most_name_ticks}
 use Rattle.qc_ship.specs.Ship.{HasCranes, HasOrder, HasReleases, IsShip, ShipView, greatest_start, least_start}
 use Rattle.qc_ship.specs.declared.ship.NamePair.{NamePair}
 use Rattle.qc_ship.specs.declared.ship.NameTick.{NameTick}
 use Rattle.qc_ship.specs.declared.ship.TaskName.{TaskName}
 use Rattle.qc_tasks.proofs.Lists.{pair_map, pairs_by_index, pairs_from_index}
 use Rattle.qc_rest_files.specs.Aboard.{IsAboard}
-use Rattle.qc_rest_files.specs.RestShip.{are_named, is_held, release_of, releases_of, rest_ship}
+use Rattle.qc_rest_files.specs.RestShip.{are_named, is_held, release_of, rest_ship}
 
 pub few_passed : {B : Type 0} (p : B → Bool) (xs : List B) → length (filter p xs) ≤ length xs
 few_passed p [] = omega arith

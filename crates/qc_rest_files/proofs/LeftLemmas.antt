@@ -1,12 +1,12 @@
 -- The moves that are left, among all of a list.
-use Rattle.std.proofs.Common.{◌≡◌, ◌≢◌, ℕ, ◌+◌, ◌<◌, ◌≤◌, Bool, true, false, List, [], ◌∷◌, ◌++◌, length, take, get_or, All, IsSome, Result, Ok, Err, refl, sym, ap, subst, ◌∙◌, inl, inr, arith, append-nil, append_assoc}
+use Rattle.std.proofs.Common.{◌≡◌, ◌≢◌, ℕ, ◌+◌, ◌<◌, ◌≤◌, false, List, [], ◌∷◌, ◌++◌, length, take, get_or, All, IsSome, Result, Ok, Err, refl, sym, ap, subst, ◌∙◌, inl, inr, arith, append-nil, append_assoc}
 use Rattle.std.specs.Prelude.{OnOk}
-use Rattle.std.specs.List.{AllByRecursion as Each, filter, flat_map}
+use Rattle.std.specs.List.{AllByRecursion as Each, flat_map}
 use Rattle.std.proofs.lemmas.Bool.{cases_Bool}
 use Rattle.std.proofs.lemmas.List.{take_all, take_more}
 use Rattle.std.proofs.lemmas.List.Elements.{All-push, recursion_from_All}
 use Rattle.std.proofs.lemmas.List.Kept.{AllPairs-filter}
-use Rattle.qc_changes.specs.ListText.{IsPlain, list_text, read_for, row_line}
+use Rattle.qc_changes.specs.ListText.{IsPlain, list_text, row_line}
 use Rattle.qc_changes.proofs.ReadLemmas.{moves_read}
 use Rattle.qc_model.specs.declared.task.Task.{Task}
 use Rattle.qc_num.specs.Reading.{each}

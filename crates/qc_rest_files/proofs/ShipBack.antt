@@ -1,6 +1,6 @@
 -- The table of a ship is read as the ship.
-use Rattle.std.proofs.Common.{◌≡◌, ◌≢◌, ℕ, zero, suc, ◌+◌, ◌-◌, ◌<◌, ◌≤◌, ℤ, pos, ◌+ℤ◌, ◌≤ℤ◌, Bool, true, false, not, cond, ◌==◌, List, [], ◌∷◌, length, map, take, get_or, slice_index, All, AllPairs, Contains, Option, Some, None, Result, Ok, Err, refl, sym, ap, subst, ◌∙◌, inl, inr, arith, nat_lt, int_le, bytes_eq, ok_or}
-use Rattle.std.specs.List.{AllByRecursion as Each, position_or_len, range_with_len}
+use Rattle.std.proofs.Common.{◌≡◌, ◌≢◌, ℕ, zero, suc, ◌+◌, ◌-◌, ◌<◌, ◌≤◌, ℤ, pos, ◌+ℤ◌, ◌≤ℤ◌, Bool, true, false, ◌==◌, List, [], ◌∷◌, length, map, take, get_or, slice_index, All, AllPairs, Contains, Some, Ok, refl, sym, ap, ◌∙◌, inl, inr, arith, nat_lt, int_le, bytes_eq}
+use Rattle.std.specs.List.{AllByRecursion as Each, position_or_len}
 use Rattle.std.specs.Option.{option_map_or}
 use Rattle.std.specs.Ordering.{int_eq}
 use Rattle.std.proofs.lemmas.Bool.{cases_Bool, cases_lt, lt-ltb}
@@ -10,25 +10,23 @@ use Rattle.std.proofs.lemmas.List.Elements.{recursion_from_All}
 use Rattle.std.proofs.lemmas.List.Sums.{position_or_len_is}
 use Rattle.std.proofs.lemmas.Slice.Eq.{bytes_eq-Decides}
 use Rattle.qc_num.specs.Reading.{◌>>=◌, each}
-use Rattle.toml.specs.Data.{Data, Members, string, table}
+use Rattle.toml.specs.Data.{Members, string}
 use Rattle.qc_model.specs.Names.{is_name}
 use Rattle.qc_model.specs.Numbers.{most_cranes, most_gap_by_places, most_hatches, most_place, most_ready, most_travel_by_places}
 use Rattle.qc_model.specs.Numbers as bays
 use Rattle.qc_model.specs.declared.crane.Crane.{Crane}
 use Rattle.qc_model.specs.declared.task.Phase.TheVariants.{DeckOut}
 use Rattle.qc_model.specs.Instance.{no_crane}
-use Rattle.qc_ship.specs.Keys.{fault}
 use Rattle.qc_ship.specs.Numbers.{greatest_hatch, most_hatch_pairs, most_margin, most_move_ticks, most_name_pairs, most_name_ticks}
-use Rattle.qc_ship.specs.Ship.{HasCranes, HasHatches, HasOrder, HasPairs, HasPlaces, HasReleases, HasTimes, IsShip, ShipView, greatest_start, highest_bay, least_start, lowest_bay, most_travel}
-use Rattle.qc_ship.specs.ShipFile.{apart_at, before_at, crane_at, crane_in, cranes_at, gap_at, gives_places, hatch_in, hatch_of, hatch_place, hatches_at, keeps_gap, names_in, not_before_at, ordered_at, pair_in, place_in, places_at, release_in, restows_in, same_name, ship_of, ship_with, times_at}
+use Rattle.qc_ship.specs.Ship.{HasHatches, IsShip, ShipView, greatest_start, highest_bay, least_start, lowest_bay}
+use Rattle.qc_ship.specs.ShipFile.{apart_at, before_at, crane_at, crane_in, cranes_at, gives_places, hatch_in, hatch_of, hatch_place, hatches_at, keeps_gap, names_in, not_before_at, pair_in, place_in, places_at, release_in, restows_in, same_name, ship_of, times_at}
 use Rattle.qc_ship.specs.ShipValues.{array_in, last, next_number}
 use Rattle.qc_ship.specs.declared.fault.Key.TheVariants as key
-use Rattle.qc_ship.specs.declared.fault.ShipKind.TheVariants as kind
 use Rattle.qc_ship.specs.declared.ship.HatchPair.{HatchPair}
 use Rattle.qc_ship.specs.declared.ship.NamePair.{NamePair}
 use Rattle.qc_ship.specs.declared.ship.NameTick.{NameTick}
 use Rattle.qc_ship.specs.declared.ship.TaskName.{TaskName}
-use Rattle.qc_rest_files.specs.ShipTable.{apart_value, array_of, before_value, crane_members, crane_value, hatch_at, name_value, number, release_value, restows_text, ship_table, table_with}
+use Rattle.qc_rest_files.specs.ShipTable.{apart_value, array_of, before_value, crane_members, crane_value, hatch_at, number, release_value, restows_text, ship_table, table_with}
 use Rattle.qc_rest_files.proofs.Backs.{array_back, each_any, each_back, find_only, integer_back, last_test, none_ahead, number_back}
 use Rattle.qc_rest_files.proofs.NameBack.{name_back, other_name}
 

@@ -1,5 +1,5 @@
 -- A ship's table as a text.
-use Rattle.std.proofs.Common.{◌≡◌, ◌<◌, ◌≤◌, ◌+◌, ℕ, suc, zero, Bool, true, false, List, [], ◌∷◌, length, map, get_or, slice_index, String, string_bytes, IsUtf8, IsOk, Result, Ok, Err, refl, arith, max}
+use Rattle.std.proofs.Common.{◌≡◌, ◌<◌, ◌≤◌, ℕ, suc, zero, Bool, true, false, List, [], ◌∷◌, map, IsUtf8, IsOk, Result, Ok, Err, refl, arith}
 use Rattle.std.specs.List.{list_all}
 use Rattle.std.specs.Prelude.{MatchResult}
 use Rattle.std.specs.Str.{IsAscii}

@@ -1,5 +1,5 @@
 -- public: the ship of what is left of a plan.
-use Rattle.std.specs.Prelude.{ℕ, Bool, not, ◌&&◌, ◌==◌, List, map, filter}
+use Rattle.std.specs.Prelude.{Bool, not, ◌&&◌, ◌==◌, List, map, filter}
 use Rattle.std.specs.List.{list_any}
 use Rattle.qc_model.specs.declared.task.Task.{Task}
 use Rattle.qc_model.specs.Instance.{InstanceView}

@@ -11,6 +11,7 @@ mod list;
 mod names;
 mod places;
 mod ship;
+mod table;
 mod values;
 
 pub use list::write_stow;

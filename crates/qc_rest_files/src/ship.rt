@@ -15,8 +15,8 @@ ghost use Rattle.std.specs.List.{filter};
 
 use crate::cranes::crane_values;
 use crate::names::{before_values, release_values};
+use crate::table::put;
 use crate::values::{apart_values, number_value, number_values};
-use qc_make::put;
 use qc_model::Instance;
 use qc_num::{Bytes, OutOfMemory, Tick};
 use qc_ship::Ship;

@@ -1,6 +1,6 @@
 use Rattle.std.proofs.Common.{ap, ℤ, of_z, to_z, w64, ◌∙◌}
 use Rattle.toml.specs.Data.{integer, string}
-use Rattle.toml.specs.View.{members_view, table_view, view}
+use Rattle.toml.specs.View.{members_view, table_view}
 use Rattle.toml.proofs.Views.{view-Integer, view-Table}
 use Rattle.qc_model.specs.declared.crane.Crane.{Crane}
 use Rattle.qc_model.specs.declared.direction.Direction.TheVariants.{Up}

@@ -1,4 +1,4 @@
-use Rattle.std.proofs.Common.{ap, map, ◌∙◌, ◌<◌, ℕ, inl, inr, arith, subst}
+use Rattle.std.proofs.Common.{ap, map, ◌∙◌, ℕ, inl, inr, arith, subst}
 use Rattle.std.specs.Prelude.{IsTrue}
 use Rattle.std.proofs.lemmas.Bool.{cases_lt}
 use Rattle.std.proofs.lemmas.List.{take_all}

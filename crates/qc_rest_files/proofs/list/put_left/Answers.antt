@@ -1,4 +1,4 @@
-use Rattle.std.proofs.Common.{◌∙◌, ap, arith, rules, sym, subst}
+use Rattle.std.proofs.Common.{◌∙◌, ap, arith, subst}
 use Rattle.qc_io.proofs.WritesLemmas.{items_cut, items_more}
 use Rattle.qc_rest_files.specs.LeftLines.{IsPlainIfLeft, left_line}
 use Rattle.qc_rest_files.proofs.LeftLemmas.{all_more, all_of_whole}

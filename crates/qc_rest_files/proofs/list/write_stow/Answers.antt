@@ -1,4 +1,4 @@
-use Rattle.std.proofs.Common.{ap, sym, subst, ◌++◌, List, ℕ, ◌∙◌}
+use Rattle.std.proofs.Common.{subst, ◌++◌, List, ℕ}
 use Rattle.std.specs.List.{flat_map}
 use Rattle.qc_io.proofs.WritesLemmas.{writes_cut, writes_then}
 use Rattle.qc_io.specs.Writes.{Writes}

@@ -1,7 +1,7 @@
 use Rattle.std.proofs.Common.{ap, map, sym, ◌∙◌, arith}
 use Rattle.toml.specs.View.{view}
 use Rattle.qc_model.specs.Instance.{no_task}
-use Rattle.qc_rest_files.specs.RestShip.{is_held, release_of}
+use Rattle.qc_rest_files.specs.RestShip.{is_held}
 use Rattle.qc_rest_files.specs.ShipTable.{release_value}
 use Rattle.qc_rest_files.proofs.ValueLemmas.{entries_all, entry_value, value_failed, value_passed}
 use Rattle.qc_rest_files.proofs.names.release_values.Goals as goal

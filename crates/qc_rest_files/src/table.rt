@@ -8,7 +8,12 @@ use std::alloc::Global;
 use toml::{Table, Value};
 
 /// Puts a value at a key.
-pub fn put(alloc: Global, table: &mut Table, key: &str, value: Value) -> Result<(), OutOfMemory>
+pub(crate) fn put(
+    alloc: Global,
+    table: &mut Table,
+    key: &str,
+    value: Value,
+) -> Result<(), OutOfMemory>
     ensures { OnOk result (table_view table.new
         ≡ with_member key.now (view value) (table_view table.old)) }
 {
