@@ -3,13 +3,11 @@ use Rattle.std.proofs.Common.{◌≡◌, ℕ, ◌<◌, List, All, length, subst,
 use Rattle.std.specs.List.{range_with_len}
 use Rattle.std.proofs.lemmas.List.Elements.{All-filter, All-map}
 use Rattle.std.proofs.lemmas.List.FromFn.{get_or-range_with_len, length-range_with_len}
-use Rattle.qc_dispatch.specs.Course.{Course, is_running, stage_of}
+use Rattle.qc_dispatch.specs.Course.{is_running, stage_of}
 use Rattle.qc_dispatch.specs.Journal.{Journal}
 use Rattle.qc_model.specs.Rules.{Feasible}
 use Rattle.qc_rest.specs.declared.remains.StillRuns.{StillRuns}
-use Rattle.qc_rest.specs.declared.rest.RestError.TheVariants as error
 use Rattle.qc_rest.specs.Remaining.{running_of, still_runs}
-use Rattle.qc_rest.specs.Whole.{IsNoRest}
 use Rattle.qc_rest_command.specs.Texts.{IsInside}
 
 -- what is read past the end of a list of tasks that run

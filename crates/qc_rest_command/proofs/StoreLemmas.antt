@@ -7,7 +7,7 @@ use Rattle.qc_run.specs.Inputs.{Replanning}
 use Rattle.qc_rest_command.specs.declared.answer.Renewed.{Renewed}
 use Rattle.qc_rest_command.specs.declared.answer.Renewing.{Renewing}
 use Rattle.qc_rest_command.specs.declared.answer.Renewing.TheVariants as renewing
-use Rattle.qc_rest_command.specs.Account.{IsNoRestTold, IsReady, IsRenewed, IsStopped, Writes}
+use Rattle.qc_rest_command.specs.Account.{IsNoRestTold, IsReady, IsStopped, Writes}
 use Rattle.qc_rest_command.specs.Stored.{IsLeft, MakesAll, texts_of, with_all}
 use Rattle.qc_rest_command.specs.declared.answer.Worked.{Worked}
 use Rattle.qc_rest_command.specs.declared.reading.Reading.TheVariants as reading
