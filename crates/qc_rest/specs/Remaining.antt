@@ -36,6 +36,7 @@ pub record IsDue (j : Journal) (i : ℕ) : Type 0 where
 
 -- it is the lowest of those
 pub record IsFirstDue (j : Journal) (i : ℕ) : Type 0 where
+  pub task : i < length j.course.inst.tasks
   pub due : IsDue j i
   pub lowest : (h : ℕ) → h < i → ¬ IsDue j h
 

@@ -2,6 +2,7 @@
 use Rattle.std.specs.Prelude.{◌≡◌, ℕ, ◌+◌, ◌-◌, ◌<◌, ◌≤◌, ◌↔◌, ℤ, length, ⊤}
 use Rattle.qc_dispatch.specs.Journal.{Journal}
 use Rattle.qc_model.specs.Instance.{ticks_of}
+use Rattle.qc_model.specs.Judge.{IsJudgeable}
 use Rattle.qc_model.specs.Rules.{Feasible, ends}
 use Rattle.qc_rest.specs.declared.rest.Rest.{Rest}
 use Rattle.qc_rest.specs.declared.rest.RestError.{RestError}
@@ -41,6 +42,7 @@ pub record IsRestBy (j : Journal) (rest : Rest) : Type 0 where
   pub instance : rest.instance ≡ rest_of j.course (over_at j) outlook.stands places
   pub order : IsOldOrder j.course rest.instance rest.order
   pub feasible : Feasible rest.instance rest.order
+  pub judgeable : IsJudgeable rest.instance rest.order
   pub end : rest.end ≡ ends rest.instance rest.order
   pub last : ℕ
   pub last_is : IsLastGone outlook last

@@ -24,6 +24,6 @@ mod rest;
 mod stand;
 mod stands;
 
-pub use remains::StillRuns;
+pub use remains::{StillRuns, is_run_out};
 pub use rest::{Rest, RestError};
 pub use stand::Stand;

@@ -1,10 +1,12 @@
 //! What tasks that run still need, by a log.
 
-ghost use Rattle.std.specs.Prelude.{◌≡◌, ℕ, ◌+◌, ◌<◌, ◌≤◌, ◌↔◌, IfNone, IfOk, IfSome, IsTrue, length};
+ghost use Rattle.std.specs.Prelude.{◌≡◌, ℕ, ◌+◌, ◌<◌, ◌≤◌, ◌↔◌, IfNone, IfOk, IfSome, IsTrue, List, length};
 ghost use Rattle.qc_dispatch.specs.Course.{is_running, is_waiting, past_moments, stage_of};
 ghost use Rattle.qc_dispatch.specs.Following.{journal_of, most_passed};
+ghost use Rattle.qc_dispatch.specs.Journal.{IsFollowed};
 ghost use Rattle.qc_dispatch.specs.Worked.{begun_at};
-ghost use Rattle.qc_model.specs.Instance.{ticks_of};
+ghost use Rattle.qc_model.specs.declared.schedule.Slot.{Slot};
+ghost use Rattle.qc_model.specs.Instance.{InstanceView, ticks_of};
 ghost use Rattle.qc_model.specs.Numbers.{most_work};
 ghost use Rattle.qc_rest.specs.Known.{AreKnown};
 ghost use Rattle.qc_rest.specs.Remaining.{IsDue, IsFirstDue, NoneIsDue, left_of, over_at, remaining, running_of};
@@ -110,6 +112,18 @@ fn is_due(journal: &Followed, task: u16) -> bool
     ensures { IsTrue result ↔ IsDue (journal_of journal.now) task }
 {
     runs(&journal.dispatch, task) && remaining(journal, task) == 0
+}
+
+/// Whether a task of a log that was followed runs and has had the ticks that it needed, so that its end isn't reported
+/// yet.
+pub fn is_run_out(journal: &Followed, task: u16) -> bool
+    requires followed { (inst : InstanceView) × ((plan : List Slot) × ((text : List ℕ)
+        × IsFollowed inst plan text (journal_of journal.now))) }
+    requires inside { task < length journal.now.dispatch.inst.tasks }
+    ensures { IsTrue result ↔ IsDue (journal_of journal.now) task }
+{
+    let _now = journal.dispatch.now();
+    is_due(journal, task)
 }
 
 /// The lowest task that runs and has had the ticks that it needed; `None` where there is none.

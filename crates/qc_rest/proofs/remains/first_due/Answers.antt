@@ -7,7 +7,11 @@ use Rattle.qc_rest.proofs.LatestLemmas.{none_due}
 use Rattle.qc_rest.proofs.remains.first_due.Goals as goal
 
 pub returns-then-is_due-clause-first : goal.returns-then-is_due-clause-first
-returns-then-is_due-clause-first c = record { due = c.is_due.ensures.0 c.if-is_due.true; lowest = c.loop-task.invariant }
+returns-then-is_due-clause-first c = record {
+  task = omega (arith, c.loop-task-test.true, c.task_count-task-end.ensures.count, ap (λ (i : InstanceView). length i.tasks) c.instance.ensures);
+  due = c.is_due.ensures.0 c.if-is_due.true;
+  lowest = c.loop-task.invariant;
+}
 
 pub loop-task-preserved : goal.loop-task-preserved
 loop-task-preserved c = λ h low due. elim (cases_eq h c.loop-task.task) [

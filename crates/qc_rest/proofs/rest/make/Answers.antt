@@ -48,6 +48,7 @@ returns c =
       instance = c.in_ok-instance.ensures;
       order = c.in_ok-order.ensures.order;
       feasible = feasible_now f c.args.stands.now c.args.goes.now placed.0 (place_at c.args.places.now) c.requires.known c.requires.none found.stands_are found.goes_are placed.1 _ c.in_ok-instance.ensures _ c.in_ok-order.ensures.order;
+      judgeable = judgeable _ _ (feasible_now f c.args.stands.now c.args.goes.now placed.0 (place_at c.args.places.now) c.requires.known c.requires.none found.stands_are found.goes_are placed.1 _ c.in_ok-instance.ensures _ c.in_ok-order.ensures.order) c.in_ok-order.ensures.soon;
       end = c.ends-end.ensures.ends;
       last = c.last_gone.result;
       last_is = record { by = c.last_gone.ensures };

@@ -1,0 +1,4 @@
+pub mod ReadLemmas
+pub mod NoRestLemmas
+pub mod StoreLemmas
+pub mod RestLemmas
