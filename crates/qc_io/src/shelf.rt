@@ -17,6 +17,17 @@ pub trait Shelf: Sink {
         ensures { Self.view self.new ≡ Self.view self.old }
     {}
 
+    /// Is told that so many of so many runs are done. It changes nothing that contracts see.
+    fn tell_runs(&mut self, _done: u32, _runs: u32)
+        ensures { Self.view self.new ≡ Self.view self.old }
+    {}
+
+    /// Whether the file that is being made takes its place only when it is finished, after which it can be made again.
+    /// Where not, as of a pipe, its bytes go out as they are written.
+    fn replaces(&self) -> bool {
+        true
+    }
+
     /// Opens the file for reading, from its first byte. After `Failed` no file is open.
     fn open(&mut self, name: &str) -> Result<(), Failed>
         ensures ok_reading { OnOk result ((Self.view self.new).reading ≡ true) }
