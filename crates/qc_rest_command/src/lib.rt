@@ -7,7 +7,6 @@
 
 mod answer;
 mod command;
-mod load;
 mod reading;
 mod report;
 mod storing;

@@ -2,7 +2,7 @@ use Rattle.std.proofs.Common.{List, ℕ, ap, ◌∙◌}
 use Rattle.toml.specs.View.{members_view, table_view, view}
 use Rattle.qc_make.specs.MadeTable.{with_member}
 use Rattle.qc_make.proofs.TableFacts.{members_put}
-use Rattle.qc_rest_files.proofs.table.put.Goals as goal
+use Rattle.qc_make.proofs.table.put.Goals as goal
 
 pub returns : goal.returns
 returns c =

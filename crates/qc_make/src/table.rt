@@ -7,13 +7,8 @@ use qc_num::OutOfMemory;
 use std::alloc::Global;
 use toml::{Table, Value};
 
-/// Puts a value at a key.
-pub(crate) fn put(
-    alloc: Global,
-    table: &mut Table,
-    key: &str,
-    value: Value,
-) -> Result<(), OutOfMemory>
+/// Puts a value at a key of a table, in the place of the one that stands there, if one does.
+pub fn put(alloc: Global, table: &mut Table, key: &str, value: Value) -> Result<(), OutOfMemory>
     ensures { OnOk result (table_view table.new
         ≡ with_member key.now (view value) (table_view table.old)) }
 {

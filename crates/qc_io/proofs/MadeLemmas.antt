@@ -1,5 +1,6 @@
 -- A file that is made, from what the shelf's calls say.
-use Rattle.std.proofs.Common.{◌≡◌, ℕ, List, Option, None, Some, ◌⊎◌, ap, ◌∙◌, inl, inr, refl, IsErrAnd, OnOk, Result, Ok, Err}
+use Rattle.std.proofs.Common.{◌≡◌, ℕ, List, Option, None, Some, ◌⊎◌, ap, ◌∙◌, inl, inr, refl, IfSome, IsErrAnd, OnOk, Result, Ok, Err}
+use Rattle.std.specs.FinMap.{insert}
 use Rattle.std.specs.Io.KnownBytes.{append_known}
 use Rattle.qc_io.specs.Outside.{Beside, Files, View, begun, beside, finished, with_file}
 
@@ -37,3 +38,14 @@ left_file before created wrote after name text same made fresh whole stays (inl 
     inl (kept ∙ ap (λ (b : Beside). b.files) stays ∙ same)
 left_file before created wrote after name text same made fresh whole stays (inr put) =
     inr (put ∙ made_file before created wrote name text same made fresh whole stays)
+
+-- the same where what is held is named
+pub held_file : (before after : Option Files) (name text : List ℕ) → after ≡ with_file before name text
+    → IfSome before (λ held. after ≡ Some (insert held name text))
+held_file None after name text e = tt
+held_file (Some held) after name text e = e
+
+pub held_left : (before after : Option Files) (name text : List ℕ) → (after ≡ before) ⊎ (after ≡ with_file before name text)
+    → IfSome before (λ held. (after ≡ Some held) ⊎ (after ≡ Some (insert held name text)))
+held_left None after name text e = tt
+held_left (Some held) after name text e = e
