@@ -5,7 +5,7 @@ use Rattle.std.proofs.lemmas.List.Elements.{All-append, All-contains, All-filter
 use Rattle.std.proofs.lemmas.List.Folds.{list_any_at}
 use Rattle.std.specs.List.{AllByRecursion, flat_map, list_any, range_with_len}
 use Rattle.qc_num.proofs.Lists.{Contains-map}
-use Rattle.qc_close.specs.Model.{Decision, Pair, Slot, Turn, OneWay, Free, GoesBy, InstanceView, IsApart, Valid, pair_of, Conflicts, assigned, Feasible, IsClear, crane_of, slot_distance, task_distance}
+use Rattle.qc_close.specs.Model.{Decision, Pair, Slot, Turn, OneWay, Free, GoesBy, InstanceView, IsApart, Valid, pair_of, Conflicts, assigned, Feasible, IsClear, crane_of, slot_distance, task_distance, is_apart}
 use Rattle.qc_model.proofs.NodeLemmas.{before_found, conflict_differs, conflict_inside, conflict_turned, one_way_apart}
 use Rattle.qc_model.proofs.TurnLemmas.{by_feasible}
 use Rattle.qc_starts.specs.Tight.{conflicts_in, ordered_pairs, task_pairs}
@@ -86,7 +86,7 @@ module _ (inst : InstanceView) (v : Valid inst) (sched : List Slot) where
   ordered_rise p c = rise_by inst.turn p c
 
   abbrev listed : Pair → Bool
-  listed p = list_any (λ other. (other.first == p.first) && (other.second == p.second)) inst.apart
+  listed p = is_apart inst p.first p.second
 
   -- two tasks that conflict are apart, or one crane has both, or they would come too near
   conflict_cases : (p : Pair) → conflicts_in inst sched p ≡ true
@@ -96,7 +96,7 @@ module _ (inst : InstanceView) (v : Valid inst) (sched : List Slot) where
       elim (or_cases (listed p || eqb (crane_of sched p.first) (crane_of sched p.second))
       (nat_lt 0 (slot_distance inst sched p.first p.second)) t) [
         | inl first ↦ elim (or_cases (listed p) (eqb (crane_of sched p.first) (crane_of sched p.second)) first) [
-          | inl a ↦ inl (inl (before_found p.first p.second inst.apart a))
+          | inl a ↦ inl (inl a)
           | inr same ↦ inl (inr (eqb-true _ _ same))
         ]
         | inr near ↦ inr (ltb-true 0 (slot_distance inst sched p.first p.second) near)
@@ -104,11 +104,8 @@ module _ (inst : InstanceView) (v : Valid inst) (sched : List Slot) where
 
   in_apart : (i j : ℕ) → IsApart inst i j → conflicts_in inst sched (pair_of i j) ≡ true
   in_apart i j a =
-      let itself = and_from (eqb i i) (eqb j j) (eq-eqb i i refl) (eq-eqb j j refl) in
-      let found = subst (λ (p : Pair). ((p.first == i) && (p.second == j)) ≡ true) (sym a.2) itself in
       or_left (listed (pair_of i j) || eqb (crane_of sched i) (crane_of sched j)) (nat_lt 0 (slot_distance inst sched i j))
-      (or_left (listed (pair_of i j)) (eqb (crane_of sched i) (crane_of sched j))
-      (list_any_at (λ other. (other.first == i) && (other.second == j)) inst.apart a.0 (pair_of i j) a.1 found))
+      (or_left (listed (pair_of i j)) (eqb (crane_of sched i) (crane_of sched j)) a)
 
   in_same : (i j : ℕ) → crane_of sched i ≡ crane_of sched j → conflicts_in inst sched (pair_of i j) ≡ true
   in_same i j same =

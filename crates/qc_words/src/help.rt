@@ -43,7 +43,7 @@ const PLAN: &[u8] = b"qc plan SHIP STOW PLAN TREE [--nodes N] [--from OWN]
 
 Searches for a plan that ends early, and writes the best that it finds, and a tree that shows how
 early one that goes one way can end.
-    --nodes N    at most N branchings of the search, 0 to 100000; 20000 where it isn't given
+    --nodes N    at most N branchings of the search, 0 to 1000000; 20000 where it isn't given
     --from OWN   a plan to begin with: the plan that is written never ends later
 Ends with 0 Optimal: no plan that goes one way ends earlier; 10 Infeasible: none goes one way;
 11 Budget: the branchings are spent, the plan is the best that is known, and none that goes one
@@ -87,7 +87,7 @@ const FREE: &[u8] = b"qc free SHIP STOW PLAN TREE [--nodes N] [--from OWN]
 Searches as plan does, for plans of any kind: a crane may go to and fro where it pays. It goes on
 from what a search as of plan finds first, with as many branchings, so it takes longer; its tree is
 one of all feasible plans.
-    --nodes N    at most N branchings of each search, 0 to 100000; 20000 where it isn't given
+    --nodes N    at most N branchings of each search, 0 to 1000000; 20000 where it isn't given
     --from OWN   a plan to begin with, whichever way its cranes go: what is written never ends later
 Ends with 0 Optimal: no feasible plan ends earlier; 10 Infeasible: there is none; 11 Budget: the
 branchings are spent, the plan is the best that is known, and none ends before the bound;
