@@ -1,6 +1,6 @@
 -- The least starts of a node: its heads, put off as often as there are tasks. These meet it where they are put off no more;
 -- and the least that meet it come out, since with each round one task more is at its least start.
-use Rattle.std.proofs.Common.{◌≡◌, ℕ, zero, suc, ◌+◌, ◌-◌, ◌<◌, ◌≤◌, max, ◌⊎◌, inl, inr, Bool, true, false, ◌&&◌, eqb, List, [], ◌∷◌, length, map, set, Option, None, Some, IfSome, IsSome, refl, ap, sym, subst, ◌∙◌, arith, ext_get_or, length-set, get_or-set_same, get_or-set_other, nat_lt, slice_index, sum_by, option_map}
+use Rattle.std.proofs.Common.{◌≡◌, ℕ, zero, suc, ◌+◌, ◌-◌, ◌<◌, ◌≤◌, max, ◌⊎◌, inl, inr, Bool, true, false, ◌&&◌, eqb, List, length, map, set, Option, None, Some, IfSome, IsSome, refl, ap, sym, subst, ◌∙◌, arith, ext_get_or, length-set, get_or-set_same, get_or-set_other, nat_lt, slice_index, sum_by, option_map}
 use Rattle.std.specs.List.{list_all, range_with_len}
 use Rattle.std.specs.Option.{option_map_or}
 use Rattle.std.proofs.lemmas.Bool.{and_from, and_parts, cases_Bool, cases_eq, cases_lt, cond-true, eq-eqb, eqb-true, false≢true, le-ltb, lt-ltb, ltb-false, ltb-true}
