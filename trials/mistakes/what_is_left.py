@@ -76,7 +76,7 @@ WHAT_IS_LEFT = [
     usage("rest misspelt", "rests ship.toml stow.csv", ['qc: "rests" is no command; the nearest is rest']),
     usage("no OWN", REST.rsplit(" ", 1)[0], ["qc: rest needs OWN too; the words are", WORDS]),
     usage("one name for three files", "rest ship.toml stow.csv plan.csv happened.txt new.txt",
-          ["qc: rest needs NEWSTOW and OWN too; the words are", WORDS]),
+          ["qc: rest needs NEWSTOW too; the words are", WORDS]),
     usage("an eighth name", REST + " tree.txt", ['qc: "tree.txt" is one word too many for rest; the words are', WORDS]),
     usage("branchings for rest", REST + " --nodes 5",
           ['qc: rest has no option "--nodes"; a file of that name is written ./--nodes']),
