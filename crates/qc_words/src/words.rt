@@ -203,8 +203,8 @@ fn is_same(a: Option<&str>, b: Option<&str>) -> bool
 
 /// Whether one of these names is there and is equal to this one.
 fn is_among(name: Option<&str>, names: &[Option<&str>]) -> bool
-    ensures { result ≡ list_any (is_same (option_map (λ text. text.now) name.entry))
-        (map (option_map (λ text. text.now)) names.now) }
+    ensures { result ≡ list_any (λ other. is_same (option_map (λ text. text.now) name.entry)
+        (option_map (λ text. text.now) other)) names.now }
 {
     names.iter().any(|other| is_same(name, *other))
 }
@@ -238,13 +238,15 @@ fn plan_in<'a>(turn: Turn, matches: &ArgMatches<'a>) -> Request<'a>
         tree: value_of(matches, "tree"),
         nodes,
     };
-    let Inputs {
-        ship,
-        stow,
-        own,
-        ..
-    } = asked.inputs;
-    if are_different(&[Some(ship), stow, own, Some(asked.plan), Some(asked.tree)]) {
+    let files = asked.inputs;
+    let names = [
+        Some(files.ship),
+        files.stow,
+        files.own,
+        Some(asked.plan),
+        Some(asked.tree),
+    ];
+    if are_different(&names) {
         Request::Plans(asked)
     } else {
         Request::Usage
@@ -260,7 +262,8 @@ fn moves_in<'a>(matches: &ArgMatches<'a>) -> Request<'a>
         departure: value_of(matches, "departure"),
         stow: value_of(matches, "stow"),
     };
-    if are_different(&[Some(asked.arrival), Some(asked.departure), Some(asked.stow)]) {
+    let names = [Some(asked.arrival), Some(asked.departure), Some(asked.stow)];
+    if are_different(&names) {
         Request::Moves(asked)
     } else {
         Request::Usage
@@ -296,15 +299,17 @@ fn rest_in<'a>(matches: &ArgMatches<'a>) -> Request<'a>
         new_stow: value_of(matches, "newstow"),
         own: value_of(matches, "own"),
     };
-    let Inputs {
-        ship,
-        stow,
-        plan,
-        log,
-        ..
-    } = asked.inputs;
-    let (new_ship, new_stow, own) = (Some(asked.new_ship), Some(asked.new_stow), Some(asked.own));
-    if are_different(&[Some(ship), stow, plan, log, new_ship, new_stow, own]) {
+    let files = asked.inputs;
+    let names = [
+        Some(files.ship),
+        files.stow,
+        files.plan,
+        files.log,
+        Some(asked.new_ship),
+        Some(asked.new_stow),
+        Some(asked.own),
+    ];
+    if are_different(&names) {
         Request::Rest(asked)
     } else {
         Request::Usage
