@@ -1,10 +1,7 @@
 -- What follows from a run's account of itself.
 use Rattle.std.proofs.Common.{◌≡◌, ◌≢◌, ◌≤◌, ◌⊎◌, Bool, true, false, cond, not, bytes_eq, ◌||◌, IfSome, ℕ, List, [], ◌∷◌, Option, None, Some, Result, Err, arith, refl, sym, ap, ◌∙◌, subst, inl, inr, codes}
-use Rattle.std.proofs.lemmas.Bool.{and_parts, false≢true}
-use Rattle.std.proofs.lemmas.Map.Text.{is_eq-slice_cmp}
-use Rattle.std.specs.List.{list_any}
-use Rattle.std.specs.Cmp.Lexicographic.{nat_list_cmp_total}
-use Rattle.std.specs.FinMap.{get, get-insert, insert}
+use Rattle.std.proofs.lemmas.Bool.{false≢true}
+use Rattle.std.specs.FinMap.{get}
 use Rattle.qc_gantt.specs.PlanText.{plan_text}
 use Rattle.qc_io.specs.Outside.{Files, View, beside}
 use Rattle.qc_log_commands.specs.declared.dispatching.Dispatching.{Dispatching}
@@ -32,8 +29,7 @@ use Rattle.qc_picture_command.specs.Planned.{printed_status}
 use Rattle.qc_plan_command.specs.Account.{IsLeft, IsPlanRun, both_files, tree_files}
 use Rattle.qc_plan_command.specs.Promises.{PlanPromises}
 use Rattle.qc_rest_command.specs.Account.{IsRestRun}
-use Rattle.qc_rest_command.specs.Promises.{IsKept, RestPromises}
-use Rattle.qc_rest_command.specs.Stored.{IsLeft as IsLeftNew, NewTexts, texts_of}
+use Rattle.qc_rest_command.specs.Promises.{RestPromises}
 use Rattle.qc_rest_command.proofs.RestLemmas.{rest_promises}
 use Rattle.qc_search.specs.Stored.{with_plan}
 use Rattle.qc_plan_command.proofs.PlanLemmas.{plan_promises}
@@ -63,12 +59,13 @@ use Rattle.qc_log_commands.specs.declared.watching.Watching.TheVariants as watch
 use Rattle.qc_log_commands.specs.WatchAccount.{watch_reader}
 use Rattle.qc_log_commands.specs.WatchTexts.{watching_status}
 use Rattle.qc_words.proofs.LimitLemmas.{asked_kept}
-use Rattle.qc_words.specs.Asked.{Asked, KeepsLimits, are_different, is_same, read, plan, moves, simulate, replan, make, help, version, usage}
+use Rattle.qc_words.specs.Asked.{Asked, KeepsLimits, are_different, read, plan, moves, simulate, replan, make, help, version, usage}
 use Rattle.qc_words.specs.declared.asked.Reader.{Reader}
 use Rattle.qc_words.specs.declared.asked.Reader.TheVariants as reader
 use Rattle.qc_words.specs.Words.{Asks}
 use Rattle.qc_top.specs.Account.{IsAbout, IsReadBy, IsRun, IsRunOf, IsSaid, IsStopped, IsUsage}
 use Rattle.qc_top.specs.Promises.{IsWriting, Promises, ReadStays, Stays}
+use Rattle.qc_top.proofs.StayLemmas.{apart_parts, get_other, reads_stay}
 
 -- ---- want of memory for the words, as an answer of each command
 
@@ -173,23 +170,11 @@ out_kept other before after pb pa ended h = (h.reports.beside_stays, h.reports.n
 
 -- ---- the planner's own plan
 
--- a name is none of others, which differ
-apart_parts : (name : Option (List ℕ)) (names : List (Option (List ℕ))) → are_different (name ∷ names) ≡ true
-    → (not (list_any (is_same name) names) ≡ true) × (are_different names ≡ true)
-apart_parts name names = and_parts (not (list_any (is_same name) names)) (are_different names)
-
 -- two tests of which none passes
 none_of : (a b : Bool) → not (a || (b || false)) ≡ true → (a ≡ false) × (b ≡ false)
 none_of true b h = absurd (false≢true h)
 none_of false true h = absurd (false≢true h)
 none_of false false h = (refl, refl)
-
--- a file of another name is as it was
-get_other : (files : Files) (name bytes other : List ℕ) → bytes_eq other name ≡ false
-    → get (insert files name bytes) other ≡ get files other
-get_other files name bytes other differs =
-    get-insert nat_list_cmp_total files name bytes other
-    ∙ ap (λ (b : Bool). cond b (Some bytes) (get files other)) (is_eq-slice_cmp other name ∙ differs)
 
 module _ (asked : Planning) (o : List ℕ) (no_plan : bytes_eq o asked.plan ≡ false) (no_tree : bytes_eq o asked.tree ≡ false)
     (held : Files) where
@@ -217,85 +202,6 @@ all_other : (asked : Planning) (o : List ℕ) → bytes_eq o asked.plan ≡ fals
     → IfSome before (λ held. IfSome now (λ f. get f o ≡ get held o))
 all_other asked o no_plan no_tree None now left = tt
 all_other asked o no_plan no_tree (Some held) now left = left_other asked o no_plan no_tree held now left
-
--- ---- the files that the rest of a plan reads
-
--- what none of a list passes, none of those behind its first passes
-none_behind : {X : Type 0} (p : X → Bool) (x : X) (xs : List X) → not (list_any p (x ∷ xs)) ≡ true
-    → not (list_any p xs) ≡ true
-none_behind p x xs none = by (p x) none
-  where
-    by : (b : Bool) → not (b || list_any p xs) ≡ true → not (list_any p xs) ≡ true
-    by true h = absurd (false≢true h)
-    by false h = h
-
--- three tests of which none passes
-none_of_three : (a b c : Bool) → not (a || (b || (c || false))) ≡ true → (a ≡ false) × (b ≡ false) × (c ≡ false)
-none_of_three true b c h = absurd (false≢true h)
-none_of_three false true c h = absurd (false≢true h)
-none_of_three false false true h = absurd (false≢true h)
-none_of_three false false false h = (refl, refl, refl)
-
--- a name is none of the three that are written
-record IsNoneOf (asked : Replanning) (o : List ℕ) : Type 0 where
-  ship : bytes_eq o asked.new_ship ≡ false
-  stow : bytes_eq o asked.new_stow ≡ false
-  own : bytes_eq o asked.own ≡ false
-
-abbrev written_names : Replanning → List (Option (List ℕ))
-written_names asked = Some asked.new_ship ∷ Some asked.new_stow ∷ Some asked.own ∷ []
-
-none_written : (asked : Replanning) (o : List ℕ) → not (list_any (is_same (Some o)) (written_names asked)) ≡ true → IsNoneOf asked o
-none_written asked o h =
-    let none = none_of_three (bytes_eq o asked.new_ship) (bytes_eq o asked.new_stow) (bytes_eq o asked.own) h in
-    record { ship = none.0; stow = none.1; own = none.2 }
-
-module _ (asked : Replanning) (o : List ℕ) (none : IsNoneOf asked o) (held : Files) (texts : NewTexts) where
-  ship_other : get (insert held asked.new_ship texts.ship) o ≡ get held o
-  ship_other = get_other held asked.new_ship texts.ship o none.ship
-
-  list_other : get (insert (insert held asked.new_ship texts.ship) asked.new_stow texts.list) o ≡ get held o
-  list_other = get_other (insert held asked.new_ship texts.ship) asked.new_stow texts.list o none.stow ∙ ship_other
-
-  order_other :
-      get (insert (insert (insert held asked.new_ship texts.ship) asked.new_stow texts.list) asked.own texts.order) o
-      ≡ get held o
-  order_other =
-      get_other (insert (insert held asked.new_ship texts.ship) asked.new_stow texts.list) asked.own texts.order o none.own
-      ∙ list_other
-
-  new_other : (now : Option Files) → IsLeftNew asked texts (Some held) now → IfSome now (λ f. get f o ≡ get held o)
-  new_other now left = elim left [
-    | inl is ↦ by held is refl
-    | inr (inl is) ↦ by _ is ship_other
-    | inr (inr (inl is)) ↦ by _ is list_other
-    | inr (inr (inr is)) ↦ by _ is order_other
-  ]
-    where
-      by : (files : Files) → now ≡ Some files → get files o ≡ get held o → IfSome now (λ f. get f o ≡ get held o)
-      by files is same = subst (λ (m : Option Files). IfSome m (λ f. get f o ≡ get held o)) (sym is) same
-
--- a file of another name is as it was, however far the writing came
-kept_other : (asked : Replanning) (o : List ℕ) → IsNoneOf asked o → (before after : View) → IsKept asked before after
-    → Stays (Some o) before after
-kept_other asked o none before after (inl same) = by before.files after.files same
-  where
-    by : (held now : Option Files) → now ≡ held → IfSome held (λ h. IfSome now (λ n. get n o ≡ get h o))
-    by None now is = tt
-    by (Some h) now is = subst (λ (m : Option Files). IfSome m (λ n. get n o ≡ get h o)) (sym is) refl
-kept_other asked o none before after (inr new) = by before.files new.left
-  where
-    by : (held : Option Files) → IsLeftNew asked (texts_of new.told new.text) held after.files
-        → IfSome held (λ h. IfSome after.files (λ n. get n o ≡ get h o))
-    by None left = tt
-    by (Some h) left = new_other asked o none h (texts_of new.told new.text) after.files left
-
--- and so is that of a name that differs from those that are written
-stays_other : (asked : Replanning) (name : Option (List ℕ)) (before after : View) → IsKept asked before after
-    → not (list_any (is_same name) (written_names asked)) ≡ true → Stays name before after
-stays_other asked None before after kept differs = tt
-stays_other asked (Some o) before after kept differs =
-    kept_other asked o (none_written asked o differs) before after kept
 
 -- ---- what follows
 
@@ -339,37 +245,7 @@ module _ (words : List (List ℕ)) (before after pb pa : View) (ended : Status) 
       (served (λ v. IsRestRun asked before v pb pa ended) (λ reports. as_rest before pb pa ended reports asked) (serves (replan asked) asks))
 
   read_stays : (asked : Replanning) → Asks words (replan asked) → ReadStays asked before after
-  read_stays asked asks = record {
-    ship = stay asked.inputs.ship (behind asked.inputs.ship asked.inputs.log _ (behind asked.inputs.ship asked.inputs.plan _ (behind asked.inputs.ship asked.inputs.stow _ of_ship.0)));
-    stow = stay asked.inputs.stow (behind asked.inputs.stow asked.inputs.log _ (behind asked.inputs.stow asked.inputs.plan _ of_stow.0));
-    plan = stay asked.inputs.plan (behind asked.inputs.plan asked.inputs.log _ of_plan.0);
-    log = stay asked.inputs.log of_log.0;
-  }
-    where
-      written : List (Option (List ℕ))
-      written = written_names asked
-
-      of_ship : (not (list_any (is_same asked.inputs.ship) (asked.inputs.stow ∷ asked.inputs.plan ∷ asked.inputs.log ∷ written)) ≡ true)
-          × (are_different (asked.inputs.stow ∷ asked.inputs.plan ∷ asked.inputs.log ∷ written) ≡ true)
-      of_ship = apart_parts asked.inputs.ship _ (subst KeepsLimits asks (asked_kept words)).1
-
-      of_stow : (not (list_any (is_same asked.inputs.stow) (asked.inputs.plan ∷ asked.inputs.log ∷ written)) ≡ true)
-          × (are_different (asked.inputs.plan ∷ asked.inputs.log ∷ written) ≡ true)
-      of_stow = apart_parts asked.inputs.stow _ of_ship.1
-
-      of_plan : (not (list_any (is_same asked.inputs.plan) (asked.inputs.log ∷ written)) ≡ true)
-          × (are_different (asked.inputs.log ∷ written) ≡ true)
-      of_plan = apart_parts asked.inputs.plan _ of_stow.1
-
-      of_log : (not (list_any (is_same asked.inputs.log) written) ≡ true) × (are_different written ≡ true)
-      of_log = apart_parts asked.inputs.log _ of_plan.1
-
-      behind : (name first : Option (List ℕ)) (others : List (Option (List ℕ)))
-          → not (list_any (is_same name) (first ∷ others)) ≡ true → not (list_any (is_same name) others) ≡ true
-      behind name = none_behind (is_same name)
-
-      stay : (name : Option (List ℕ)) → not (list_any (is_same name) written) ≡ true → Stays name before after
-      stay name = stays_other asked name before after (writes_rest asked asks).left
+  read_stays asked asks = reads_stay asked before after (writes_rest asked asks).left (subst KeepsLimits asks (asked_kept words)).1
 
   own_stays : (asked : Planning) → Asks words (plan asked) → Stays asked.inputs.own before after
   own_stays asked asks = by asked.inputs.own (subst KeepsLimits asks (asked_kept words)).1
