@@ -172,9 +172,9 @@ const REST: &[u8] = b"qc rest SHIP STOW PLAN LOG NEWSHIP NEWSTOW OWN
 
 Follows a plan by a log, as dispatch does, and writes what has no start yet, with tick 0 at the last
 tick of LOG: a ship file, a stowage list, and OWN, a plan by which the old order goes on. Then
-qc plan NEWSHIP NEWSTOW PLAN2 TREE2 --from OWN looks for a better one. All seven names are different.
-Ends with 0, 13 Broken, or 20 NoRest: a task that runs has no ticks left, or a crane is ready too late
-or would stand too far out. With these no file is written.
+qc plan NEWSHIP NEWSTOW PLAN2 TREE2 --from OWN looks for a better one. All seven names differ.
+Ends with 0, 13 Broken, or 20 NoRest: a task that runs has no ticks left, or a crane is ready too
+late or would stand too far out. With these no file is written.
 Faults end with 2 to 6, 8, 9, 15 and 17, and are told by their kind and place: man 5 qc.
 ";
 
