@@ -1,7 +1,7 @@
 #!/usr/bin/env python3
 """Gives the built program the longest logs, most past tasks, largest trees and files at their limits, and prints what it took.
 
-    trials/greatest.py [--program FILE] [--nodes 100000] [--only WORD]
+    trials/greatest.py [--program FILE] [--nodes 1000000] [--only WORD]
 
 For each trial: `ok` or `WRONG`, what was tried, status and first line of the report, processor seconds, and the most
 memory in MB. Those of trees plan the made ship 2 of 60 hatches and 8 cranes with so many branchings, one way and to and
@@ -212,7 +212,7 @@ def limits(room):
 def main():
     parser = argparse.ArgumentParser(description="the longest logs, the largest trees, files at their limits")
     add_program(parser)
-    parser.add_argument("--nodes", type=int, default=100_000)
+    parser.add_argument("--nodes", type=int, default=1_000_000)
     parser.add_argument("--only", default="", help="logs, chances, left, trees or limits")
     words = parser.parse_args()
     program = program_of(words)
