@@ -45,7 +45,7 @@ sys.path.append(str(ROOT / "trials"))
 
 from tried import add_program, program_of
 
-USUAL, MOST = 20_000, 100_000  # branchings where none are given, and at the most
+USUAL, MOST = 20_000, 100_000  # branchings where none are given, and the most that are tried
 
 # Hatches and cranes of the made ships of the first table.
 SIZES = [(8, 2), (10, 3), (12, 3), (15, 3), (20, 4), (30, 5), (40, 6), (50, 7), (60, 8)]
