@@ -2,12 +2,11 @@
 //!
 //! It follows a plan by the log of its work, and writes what has no start yet as a ship file, a stowage list and a plan
 //! by which the old order goes on, all counted from the log's last tick. With every status the three files are new from
-//! the first on, each whole, or as they were (`write_rest`). No program calls it yet.
+//! the first on, each whole, or as they were (`write_rest`).
 #![tactic(auto)]
 
 mod answer;
 mod command;
-mod load;
 mod reading;
 mod report;
 mod storing;

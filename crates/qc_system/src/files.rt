@@ -151,6 +151,13 @@ where
         Ok(())
     }
 
+    fn replaces(&self) -> bool {
+        match &self.making {
+            Some(making) => making.held.is_some(),
+            None => true,
+        }
+    }
+
     fn finish(&mut self) -> Result<(), Failed> {
         let Some(mut making) = self.making.take() else {
             return Ok(());

@@ -1,6 +1,7 @@
 use Rattle.qc_io.proofs.Pieces.{on_err}
 use Rattle.qc_tree.specs.Trees.{tree_text}
-use Rattle.qc_search.proofs.StoreLemmas.{left_file, tree_left}
+use Rattle.qc_io.proofs.MadeLemmas.{left_file}
+use Rattle.qc_search.proofs.StoreLemmas.{tree_left}
 use Rattle.qc_search.proofs.store.store_tree.Goals as goal
 
 pub returns-in_err-finish-clause-err : goal.returns-in_err-finish-clause-err
