@@ -391,7 +391,7 @@ def short(kept):
     if rows:
         slow = max(rows, key=lambda row: row["seconds"])
         rest = max((row for row in rows if not row["command"].endswith("check")), key=lambda row: row["seconds"])
-        yield (f"- Of the other commands on the greatest files (50,000 moves, logs and trees at their limits) "
+        yield (f"- Of the other commands on the greatest files (50,000 moves, logs at their limit, trees of 100,000 branchings) "
                f"`{slow['command']}` takes longest, {seconds_text(slow['seconds'])} s ({slow['what']}); all but the checks at most "
                f"{seconds_text(rest['seconds'])} s; at most {max(row['memory'] for row in rows):.1f} MB.")
     yield from short_solvers(kept.get("solvers", {}).get("rows", []))

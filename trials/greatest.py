@@ -6,8 +6,8 @@
 For each trial: `ok` or `WRONG`, what was tried, status and first line of the report, processor seconds, and the most
 memory in MB. Those of trees plan the made ship 2 of 60 hatches and 8 cranes with so many branchings, one way and to and
 fro, and judge both answers by `check` and `freecheck`, with the plan and without; what these say must be what the search
-said. It ends with 1 where another status or first line came than was wanted, more than 512 MB were taken, or more than a
-second by `rest`. Which program FILE is, tried.py says.
+said. Trees that are made here have the most branchings, and one more. It ends with 1 where another status or first line
+came than was wanted, more than 512 MB were taken, or more than a second by `rest`. Which program FILE is, tried.py says.
 """
 import argparse
 import runpy
@@ -25,6 +25,7 @@ ships = runpy.run_path(str(ROOT / "bench" / "ships.py"))
 made, full = ships["made"], ships["full"]
 
 LIMIT = 8_388_608  # bytes of a file but for trees
+MOST = 1_000_000  # branchings of a tree
 # Runs a command and notes what it took; from a process of its own, whose memory is small, since that of the process that
 # begins another is counted with it.
 MEASURE = """import os, sys
@@ -209,10 +210,37 @@ def limits(room):
         room.expect(f"a log of one line of {LIMIT:,} bytes", words, 17, ["BadLog Line 1"])
 
 
+def tree(task, count):
+    """The lines of a node and of all below it, so many of which branch: on tasks from this one on, over eight cranes, in
+    the first children that have room for it down to the 9th task. Leaves are empty chains."""
+    if count == 0:
+        return b"P\n"
+    lines, left, room = b"A %d\n" % task, count - 1, (8 ** (9 - task) - 1) // 7
+    for _ in range(8):
+        lines += tree(task + 1, min(left, room))
+        left -= min(left, room)
+    assert left == 0
+    return lines
+
+
+def edges(room):
+    """Trees of the most branchings, and of one more: the fault stands where that one does."""
+    ship, rows = made(2, 60, 8)
+    room.write("s", ("\n".join(ship) + "\n").encode()), room.write("m", ("\n".join(rows) + "\n").encode())
+    for count in (MOST, MOST + 1):
+        parts = {"check": b"QCTREE 3\nup\n" + tree(1, 600_000) + b"down\n" + tree(1, count - 600_000),
+                 "freecheck": b"QCFREE 1\n" + tree(1, count)}
+        for command, nodes in parts.items():
+            room.write("t", nodes + b"end %d 0\n" % count)
+            line = nodes[:nodes.rindex(b"A")].count(b"\n") + 1
+            first = "Bound 0" if count == MOST else f"BadTree Branchings {line}"
+            room.expect(f"a tree of {count:,} branchings", [command, "s", "m", "-", "t"], 0 if count == MOST else 7, [first])
+
+
 def main():
     parser = argparse.ArgumentParser(description="the longest logs, the largest trees, files at their limits")
     add_program(parser)
-    parser.add_argument("--nodes", type=int, default=1_000_000)
+    parser.add_argument("--nodes", type=int, default=MOST)
     parser.add_argument("--only", default="", help="logs, chances, left, trees or limits")
     words = parser.parse_args()
     program = program_of(words)
@@ -220,7 +248,7 @@ def main():
         room = Room(program, folder)
         known = commands_of(program)
         for name, part in (("logs", logs), *[("chances", chances)] * ("odds" in known), *[("left", left)] * ("rest" in known),
-                           ("limits", limits), ("trees", lambda room: trees(room, words.nodes))):
+                           ("limits", limits), ("edges", edges), ("trees", lambda room: trees(room, words.nodes))):
             if words.only in name:
                 part(room)
     print(f"{room.wrong} wrong")

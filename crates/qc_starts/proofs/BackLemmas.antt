@@ -17,7 +17,7 @@ use Rattle.qc_arena.specs.Trails.{Notes, written_back}
 use Rattle.std.proofs.lemmas.Bool.{and_parts}
 
 in_reach_less : (inst : InstanceView) (ds : List Decision) → IsInReach inst ds → IsInReach inst (drop 1 ds)
-in_reach_less inst [] all = refl
+in_reach_less inst [] all = all
 in_reach_less inst (Assign j k ∷ ds) all = (and_parts (reaches inst j k) (is_in_reach inst ds) all).1
 in_reach_less inst (Order i j ∷ ds) all = all
 
