@@ -87,11 +87,8 @@ module _ (asked : Planning) (job : OwnJob) (allowed : IfSome job.own (IsAllowed 
       tree = stored.tree;
       done = done;
       found = record {
-        found = ran.found;
-        own_first = search.first;
-        own_offered = is.offered;
         first = ran.first;
-        offered = ran.offered;
+        begins = record { found = ran.found; own_first = search.first; own_offered = is.offered; offered = ran.offered };
         came = stored.came;
       };
     }

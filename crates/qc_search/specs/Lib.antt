@@ -1,5 +1,6 @@
 pub mod Earned
 pub mod Run
+pub mod Rounds
 pub mod Fields
 pub mod Walk
 pub mod Lines
