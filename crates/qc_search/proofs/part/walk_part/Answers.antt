@@ -6,7 +6,7 @@ use Rattle.qc_search.specs.Progress.{IsMet, WritesNodes}
 use Rattle.qc_search.specs.Walk.{WereMade, from_node}
 use Rattle.qc_search.proofs.DescentLemmas.{made_in_reach}
 use Rattle.qc_search.proofs.NodesLemmas.{nodes_then, none_written, on_fault_whole}
-use Rattle.qc_search.proofs.part.search_part.Goals as goal
+use Rattle.qc_search.proofs.part.walk_part.Goals as goal
 
 pub loop-child-init : goal.loop-child-init
 loop-child-init g c =
