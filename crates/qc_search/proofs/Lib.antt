@@ -18,3 +18,4 @@ pub mod PlaceLemmas
 pub mod OutlookLemmas
 pub mod OutcomeLemmas
 pub mod StoreLemmas
+pub mod RoundLemmas

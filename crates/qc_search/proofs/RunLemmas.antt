@@ -22,7 +22,7 @@ use Rattle.qc_search.proofs.TightLemmas.{best_end_is, best_soon, kept_end}
 use Rattle.qc_search.proofs.TreeLemmas.{bound_is, branched_is}
 
 -- where no leaf shows an end before that of the incumbent, the outcome isn't Budget
-decided : (value met : Bound) → outcome value met ≡ Budget → IsAtMost met value → ⊥
+pub decided : (value met : Bound) → outcome value met ≡ Budget → IsAtMost met value → ⊥
 decided Never met is late = cc is
 decided (Least value) Never is late = late
 decided (Least value) (Least end) is late =
@@ -100,12 +100,12 @@ module _ (home : InstanceView) (v : Valid home) {before after : View} (old now :
     where
       by_late : IsAtMost now.aim now.bound ⊎ IsAtMost now.incumbent_end now.bound
           → (now.branched ≡ old.limit) ⊎ IsAtMost old.aim now.bound
-      by_late (inl shown) = inr (subst (λ (a : Bound). IsAtMost a now.bound) w.aim shown)
+      by_late (inl shown) = inr (subst (λ (a : Bound). IsAtMost a now.bound) w.along.aim shown)
       by_late (inr late) = absurd (decided now.bound now.incumbent_end kind late)
 
       by_left : (now.branched ≡ now.limit) ⊎ (now.branched < now.limit)
           → (now.branched ≡ old.limit) ⊎ IsAtMost old.aim now.bound
-      by_left (inl all) = inl (all ∙ w.limit)
+      by_left (inl all) = inl (all ∙ w.along.limit)
       by_left (inr left) = by_late (at_most_one now.aim now.incumbent_end now.bound (w.progress.late left))
 
   -- what is told of that, of the tree
@@ -129,7 +129,7 @@ module _ (home : InstanceView) (v : Valid home) {before after : View} (old now :
     is_tree = w.is_tree;
     under = b.progress.under;
     earned = record {
-      few = omega (arith, branched_told, w.progress.few, w.limit);
+      few = omega (arith, branched_told, w.progress.few, w.along.limit);
       each = all_earned home old.limit old.aim (tree_nodes w.tree) w.earned;
     };
     known = now.incumbent_end;
