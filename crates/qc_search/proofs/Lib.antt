@@ -19,3 +19,4 @@ pub mod OutlookLemmas
 pub mod OutcomeLemmas
 pub mod StoreLemmas
 pub mod RoundLemmas
+pub mod CourseLemmas

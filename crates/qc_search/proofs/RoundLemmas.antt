@@ -82,6 +82,12 @@ module _ (search : SearchView) where
     abbrev first : HasFirst ran.newest ran.earlier
     first = has_first ran.newest ran.earlier ran.are
 
+    abbrev main : Round
+    main = first.main
+
+    abbrev value : Bound
+    value = tree_value inst main.tree
+
     pub ran_tree : IsTree inst tree
     ran_tree =
         subst (IsTree inst) (sym ran.is_tree)
@@ -111,12 +117,6 @@ module _ (search : SearchView) where
         → outcome (tree_value inst tree) (best_end inst best) ≡ Budget → IsAtMost search.aim (tree_value inst tree)
     ran_decides v enough kind = by_kind (settled value (best_end inst main.best))
       where
-        abbrev main : Round
-        main = first.main
-
-        abbrev value : Bound
-        value = tree_value inst main.tree
-
         by_spent : (tree_branchings main.tree ≡ main.most) ⊎ IsAtMost main.aim value → IsAtMost search.aim (tree_value inst tree)
         by_spent (inl all) =
             let few = few_in_tree inst v main.tree first.is_main.is.run.is_tree in
@@ -209,9 +209,9 @@ pub few_tasks : (inst : InstanceView) (nodes : ℕ) → nodes ≤ most_branching
     → 20 ≤ length inst.tasks → ⊥
 few_tasks inst nodes few enough many =
     let base = max 2 (length inst.cranes) in
-    let open = length inst.tasks + order_pairs inst in
+    let left = length inst.tasks + order_pairs inst in
     let two : 2 ≤ base = omega arith in
     let low : 2 ^ 20 ≤ base ^ 20 = pow-le-pow_left {n = 2} {m = base} two 20 in
-    let up : base ^ 20 ≤ base ^ open = pow-le-pow_right {n = base} (omega (arith, two)) {i = 20} {j = open} (omega (arith, many)) in
-    let all : base ^ open ≤ parts_by inst.turn * base ^ open = omega (arith, mul-le-mul_left (base ^ open) (parts_some inst.turn)) in
+    let up : base ^ 20 ≤ base ^ left = pow-le-pow_right {n = base} (omega (arith, two)) {i = 20} {j = left} (omega (arith, many)) in
+    let all : base ^ left ≤ parts_by inst.turn * base ^ left = omega (arith, mul-le-mul_left (base ^ left) (parts_some inst.turn)) in
     omega (arith, low, up, all, enough, few)

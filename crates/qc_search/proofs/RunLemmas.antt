@@ -56,7 +56,7 @@ abbrev pub done_of : InstanceView → Bound → Progress → DoneView
 done_of home first now = done_with (length home.cranes) first now
 
 -- the end of the schedule that the search began with, as it is told
-told_end : (home : InstanceView) (first : Option (List Slot)) → bound_end (best_end home first) ≡ option_map (ends home) first
+pub told_end : (home : InstanceView) (first : Option (List Slot)) → bound_end (best_end home first) ≡ option_map (ends home) first
 told_end home None = refl
 told_end home (Some sched) = refl
 
@@ -88,10 +88,10 @@ module _ (home : InstanceView) (v : Valid home) {before after : View} (old now :
             (known_is ∙ ap Least (kept_end home first now _ w.progress end k)) w.progress.known;
       })
 
-  branched_told : now.branched ≡ tree_branchings w.tree
+  pub branched_told : now.branched ≡ tree_branchings w.tree
   branched_told = branched_is home first w.tree now w.progress
 
-  bound_told : now.bound ≡ tree_value home w.tree
+  pub bound_told : now.bound ≡ tree_value home w.tree
   bound_told = bound_is home first w.tree now w.progress
 
   -- under Budget all branchings are spent, or the aim is shown
@@ -122,7 +122,7 @@ module _ (home : InstanceView) (v : Valid home) {before after : View} (old now :
       by_spent (inl all) = absurd (omega (arith, enough, all, branched_told, few_in_tree home v w.tree w.is_tree))
       by_spent (inr shown) = shown
 
-  run_is : IsRun home old.limit first old.aim w.tree (shown_best (length home.cranes) now.incumbent_end now.way now.incumbent)
+  pub run_is : IsRun home old.limit first old.aim w.tree (shown_best (length home.cranes) now.incumbent_end now.way now.incumbent)
       (outcome now.bound now.incumbent_end)
   run_is = record {
     tight = tight_is home first v old [] b.progress;
