@@ -1,5 +1,5 @@
 -- How the rounds of a search come on.
-use Rattle.std.proofs.Common.{◌≡◌, ℕ, ◌+◌, ◌-◌, ◌*◌, ◌<◌, ◌≤◌, ◌⊎◌, inl, inr, nat_le, Bool, true, false, cond, List, [], length, Option, None, Some, refl, ap, ap₂, sym, subst, ◌∙◌, arith, option_map, IfOk, IfSome, OnOk, Result, Ok, Err}
+use Rattle.std.proofs.Common.{◌≡◌, ℕ, ◌+◌, ◌-◌, ◌*◌, ◌<◌, ◌≤◌, ◌⊎◌, inl, inr, nat_le, Bool, true, false, cond, List, [], length, Option, None, Some, refl, ap, ap₂, sym, subst, ◌∙◌, arith, IfOk, IfSome, OnOk, Result, Ok, Err}
 use Rattle.std.proofs.lemmas.Bool.Decides.{leb_tells}
 use Rattle.std.specs.Cmp.Lexicographic.{nat_list_cmp_total, slice_cmp}
 use Rattle.std.specs.FinMap.{get, get-insert, insert}
@@ -12,23 +12,22 @@ use Rattle.qc_num.specs.declared.bound.Bound.{Bound}
 use Rattle.qc_num.specs.declared.bound.Bound.TheVariants.{Least, Never}
 use Rattle.qc_num.specs.Bounds.{IsAtMost, lesser}
 use Rattle.qc_num.proofs.BoundLemmas.{at_most_never, at_most_same, at_most_through, first_through}
-use Rattle.qc_close.specs.Model.{Slot, InstanceView, Valid, ends, most_branchings, seen_schedule}
+use Rattle.qc_close.specs.Model.{InstanceView, Valid, most_branchings}
 use Rattle.qc_tree.specs.Trees.{NoneEarlier, Tree, tree_branchings, tree_text, tree_value}
 use Rattle.qc_tree.proofs.TreeBound.{tree_bound}
-use Rattle.qc_search.specs.declared.done.Kind.{Kind}
 use Rattle.qc_search.specs.declared.done.Kind.TheVariants.{Budget}
 use Rattle.qc_search.specs.declared.progress.Progress.{Progress}
 use Rattle.qc_search.specs.declared.round.Told.{Told}
 use Rattle.qc_search.specs.declared.rounds.Course.{Course}
 use Rattle.qc_search.specs.Course.{IsCourse, IsHalted, Outdoes, RunsRound, round_of, search_in}
-use Rattle.qc_search.specs.Earned.{TreeNode, tree_nodes}
+use Rattle.qc_search.specs.Earned.{tree_nodes}
 use Rattle.qc_search.specs.Outcome.{IsOutcome}
-use Rattle.qc_search.specs.Progress.{IsBegun, IsKept, IsProgress, WritesTree, bound_end, cutoff, known_best}
-use Rattle.qc_search.specs.Rounds.{HasRun, IsFirstRound, IsRound}
+use Rattle.qc_search.specs.Progress.{IsBegun, IsKept, WritesTree, bound_end, cutoff, known_best}
+use Rattle.qc_search.specs.Rounds.{HasRun, IsFirstRound}
 use Rattle.qc_search.specs.Run.{DoneView, IsRun, IsSound, SearchView, best_end, branching_limit, outcome}
-use Rattle.qc_search.specs.Stored.{IsSearching, IsTreeLeft, IsTreeStored, with_tree}
+use Rattle.qc_search.specs.Stored.{IsTreeLeft, IsTreeStored}
 use Rattle.qc_search.proofs.GivenLemmas.{aims_at, shown_is}
-use Rattle.qc_search.proofs.RoundLemmas.{few_tasks, open_below, ran_decides, ran_first, ran_no_later, ran_on, ran_tree, ran_up, settled}
+use Rattle.qc_search.proofs.RoundLemmas.{few_tasks, ran_decides, ran_first, ran_no_later, ran_on, ran_tree, ran_up, settled}
 use Rattle.qc_search.proofs.RunLemmas.{bound_told, branched_told, decided, done_with, run_is, told_end}
 use Rattle.qc_search.proofs.ShownLemmas.{goes_is, judgeable_is, tight_is}
 use Rattle.qc_search.proofs.StepLemmas.{kept_as}

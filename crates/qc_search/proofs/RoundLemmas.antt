@@ -1,6 +1,6 @@
 -- What the rounds of a search come to, all together.
-use Rattle.std.proofs.Common.{◌≡◌, ◌≢◌, ℕ, suc, ◌+◌, ◌*◌, ◌^◌, ◌<◌, ◌≤◌, ◌⊎◌, inl, inr, All, Contains, List, [], ◌∷◌, max, length, Option, None, Some, refl, ap, sym, subst, ◌∙◌, arith, nat_le, sum_by, mul-le-mul_left}
-use Rattle.std.proofs.Math.Nat.{one-le-pow, pow-le-pow_left, pow-le-pow_right}
+use Rattle.std.proofs.Common.{◌≡◌, ℕ, suc, ◌+◌, ◌*◌, ◌^◌, ◌≤◌, ◌⊎◌, inl, inr, All, Contains, List, [], ◌∷◌, max, length, Option, refl, ap, sym, subst, ◌∙◌, arith, nat_le, mul-le-mul_left}
+use Rattle.std.proofs.Math.Nat.{pow-le-pow_left, pow-le-pow_right}
 use Rattle.std.proofs.lemmas.Bool.{cond_both, leb-true}
 use Rattle.std.proofs.lemmas.List.Elements.{All-cons, All-contains, All-nil}
 use Rattle.std.proofs.lemmas.List.Sums.{sum_by-cons}
