@@ -161,9 +161,8 @@ pub fn simulate<S: Shelf>(
     let _tasks = inst.task_count();
     let mut simulation = Simulation::open(alloc, inst, plan, runs)?;
     for before in 0..runs {
-        let number = u32::from(before) + 1;
-        simulation.run(past, seed, number);
-        shelf.tell_runs(number, u32::from(runs));
+        simulation.run(past, seed, u32::from(before) + 1);
+        shelf.tell_runs(u32::from(before) + 1, u32::from(runs));
     }
     Ok(simulation.close())
 }

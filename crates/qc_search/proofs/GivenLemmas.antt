@@ -112,7 +112,7 @@ module _ (inst : InstanceView) (ds : List Decision) (v : Valid inst) (given : Ar
 -- ---- the tight form of a given schedule
 
 -- the incumbent is answered as it is seen
-shown_is : (home : InstanceView) (way : Direction) (end : ℕ) (kept : List Slot)
+pub shown_is : (home : InstanceView) (way : Direction) (end : ℕ) (kept : List Slot)
     → shown_best (length home.cranes) (Least end) way kept ≡ Some (seen_schedule home kept way)
 shown_is home Up end kept = refl
 shown_is home Down end kept = refl

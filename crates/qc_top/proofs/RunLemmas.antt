@@ -31,7 +31,7 @@ use Rattle.qc_plan_command.specs.Promises.{PlanPromises}
 use Rattle.qc_rest_command.specs.Account.{IsRestRun}
 use Rattle.qc_rest_command.specs.Promises.{RestPromises}
 use Rattle.qc_rest_command.proofs.RestLemmas.{rest_promises}
-use Rattle.qc_search.specs.Stored.{with_plan}
+use Rattle.qc_search.specs.Stored.{with_plan, with_tree}
 use Rattle.qc_plan_command.proofs.PlanLemmas.{plan_promises}
 use Rattle.qc_run.specs.declared.refusal.Refusal.TheVariants as refusal
 use Rattle.qc_run.specs.declared.refusal.Stop.{Stop}
@@ -189,7 +189,11 @@ module _ (asked : Planning) (o : List ℕ) (no_plan : bytes_eq o asked.plan ≡ 
 
   left_other : (now : Option Files) → IsLeft asked held now → IfSome now (λ f. get f o ≡ get held o)
   left_other now (inl is) = now_other now held is refl
-  left_other now (inr left) =
+  left_other now (inr (inl left)) =
+      let s = left.0 in
+      now_other now (with_tree held asked.tree s.inst s.tree) left.1
+      (get_other held asked.tree (tree_text s.inst s.tree) o no_tree)
+  left_other now (inr (inr left)) =
       let s = left.0 in
       let tree = get_other held asked.tree (tree_text s.inst s.tree) o no_tree in
       elim left.1 [

@@ -3,7 +3,7 @@ use Rattle.qc_model.specs.Numbers.{most_tasks}
 use Rattle.qc_num.specs.Paths.{HasRoom}
 use Rattle.qc_search.specs.Progress.{WritesNodes}
 use Rattle.qc_search.specs.Walk.{WereMade, from_node, steps_left}
-use Rattle.qc_search.proofs.part.search_part.Given as goal
+use Rattle.qc_search.proofs.part.walk_part.Given as goal
 
 abbrev pub invariant-loop-child : goal.invariant-loop-child
 invariant-loop-child g l = record {

@@ -6,7 +6,7 @@ use Rattle.qc_search.specs.Progress.{IsMet, WritesNodes}
 use Rattle.qc_search.specs.Walk.{WereMade, from_node}
 use Rattle.qc_search.proofs.DescentLemmas.{made_in_reach}
 use Rattle.qc_search.proofs.NodesLemmas.{nodes_then, none_written, on_fault_whole}
-use Rattle.qc_search.proofs.part.search_part.Goals as goal
+use Rattle.qc_search.proofs.part.walk_part.Goals as goal
 
 pub loop-child-init : goal.loop-child-init
 loop-child-init g c =
@@ -39,21 +39,21 @@ pub visit-requires-clause-crew : goal.visit-requires-clause-crew
 visit-requires-clause-crew g c =
     subst (λ (n : Node). IsCrewOf c.crew.result.now n.inst n.decisions) (sym c.starts.ensures.same) c.crew.ensures
 
-pub returns-in_err-child : goal.returns-in_err-child
-returns-in_err-child g c =
+pub returns-in_err-child-clause-writes : goal.returns-in_err-child-clause-writes
+returns-in_err-child-clause-writes g c =
     on_fault_whole _ c.from_residual.result c.from_residual.ensures.0
     (nodes_then c.loop-child.invariant.goes
     (rw c.loop-child.invariant.same at (rw c.starts.ensures.same at c.in_err-child.ensures.line)))
 
-pub returns-in_err-advance : goal.returns-in_err-advance
-returns-in_err-advance g c =
+pub returns-in_err-advance-clause-writes : goal.returns-in_err-advance-clause-writes
+returns-in_err-advance-clause-writes g c =
     let visited = nodes_then c.loop-child.invariant.goes
     (rw c.loop-child.invariant.same at (rw c.starts.ensures.same at c.in_ok-child.ensures.line)) in
     on_fault_whole _ c.from_residual-in_err-advance.result c.from_residual-in_err-advance.ensures.0
     (nodes_then visited (rw c.loop-child.invariant.same at (c.in_err-advance.ensures.goes c.args.way)))
 
-pub returns-then-not-branch : goal.returns-then-not-branch
-returns-then-not-branch g c =
+pub returns-then-not-branch-clause-writes : goal.returns-then-not-branch-clause-writes
+returns-then-not-branch-clause-writes g c =
     let visited = nodes_then c.loop-child.invariant.goes
     (rw c.loop-child.invariant.same at (rw c.starts.ensures.same at c.in_ok-child.ensures.line)) in
     nodes_then visited (rw c.if-not-branch.true at (rw c.loop-child.invariant.same at
