@@ -7,6 +7,7 @@ use Rattle.qc_io.specs.Outside.{Files, View, with_file}
 use Rattle.qc_io.specs.Writes.{Counts}
 use Rattle.qc_rest_files.specs.LeftRows.{left_rows}
 use Rattle.qc_run.specs.Inputs.{Replanning}
+use Rattle.qc_stow.specs.declared.row.Row.{Row}
 use Rattle.qc_rest_command.specs.declared.answer.Renewed.{Renewed}
 
 -- the texts of the three files
@@ -15,11 +16,15 @@ pub record NewTexts : Type 0 where
   pub list : List ℕ
   pub order : List ℕ
 
--- the list has the moves of what is left, and the plan the old order; the ship file has this text
+-- the moves of what is left
+abbrev pub new_rows : Renewed → List Row
+new_rows told = left_rows told.rest.instance.tasks told.worked.load.cargo.moves
+
+-- the list has these, and the plan the old order; the ship file has this text
 abbrev pub texts_of : Renewed → List ℕ → NewTexts
 texts_of told text = record {
   ship = text;
-  list = list_text (left_rows told.rest.instance.tasks told.worked.load.cargo.moves);
+  list = list_text (new_rows told);
   order = plan_text told.rest.instance told.rest.order;
 }
 

@@ -1,10 +1,10 @@
 //! A ship, its moves and a plan, and whether the ship file gives places.
 ghost use Rattle.std.specs.Prelude.{◌≡◌, IfOk, IsSome};
-ghost use Rattle.qc_model.specs.Judge.{IsJudgeable};
 ghost use Rattle.qc_run.specs.Due.{ship_due};
 ghost use Rattle.qc_run.specs.Inputs.{names_of};
 ghost use Rattle.qc_run.specs.Steps.{IsStep};
 ghost use Rattle.qc_sheet_command.specs.Due.{cargo_due, load_due};
+ghost use Rattle.qc_sheet_command.specs.Listed.{IsCargo, IsLoad};
 
 use qc_io::Shelf;
 use qc_num::OutOfMemory;
@@ -48,6 +48,7 @@ fn read_cargo<S: Shelf>(
     ensures step { IsStep cargo_due (names_of inputs.now)
         (S.Sink.view shelf.old) (S.Sink.view shelf.new) result }
     ensures given { IfOk result (λ cargo. in_decimetres.new ≡ cargo.ship.in_decimetres) }
+    ensures cargo { IfOk result IsCargo }
 {
     let ship = read_ship_file(alloc, inputs, in_decimetres, shelf)?;
     let moves = read_moves(alloc, inputs, &ship, shelf)?;
@@ -67,7 +68,7 @@ pub(crate) fn read_load<S: Shelf>(
     ensures step { IsStep load_due (names_of inputs.now)
         (S.Sink.view shelf.old) (S.Sink.view shelf.new) result }
     ensures given { IfOk result (λ load. in_decimetres.new ≡ load.cargo.ship.in_decimetres) }
-    ensures judgeable { IfOk result (λ load. IsJudgeable load.cargo.inst load.sched) }
+    ensures load { IfOk result IsLoad }
 {
     let cargo = read_cargo(alloc, inputs, in_decimetres, shelf)?;
     let sched = read_schedule(alloc, inputs, Input::Plan, &cargo.inst, shelf)?;

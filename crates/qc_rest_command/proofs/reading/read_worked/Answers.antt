@@ -9,6 +9,7 @@ returns-in-Ok-follow_log g c =
     log_followed c.in-Ok.ensures.step c.in_default.ensures.feasible c.in-Ok-read_input.ensures c.read_load.new.in_decimetres c.in-Ok-follow_log.followed
     c.in-Ok.ensures.given
     (rw c.as_slice.ensures at c.in-Ok-follow_log.ensures.following)
+    c.in-Ok.ensures.load c.in-Ok-follow_log.ensures.plan.0 c.in-Ok-follow_log.ensures.keeps
 
 pub returns-in-Err-Fault : goal.returns-in-Err-Fault
 returns-in-Err-Fault g c =
