@@ -137,8 +137,16 @@ same_moves hatch phase u row e =
     ap (λ (h : ℕ). test h (phase_rank phase)) (sym (eqb-true u.hatch hatch parts.0))
     ∙ ap (test u.hatch) (sym (eqb-true (phase_rank u.phase) (phase_rank phase) parts.1))
 
-abbrev HasHatch : ShipView → ℕ → Type 0
+abbrev pub HasHatch : ShipView → ℕ → Type 0
 HasHatch ship hatch = Contains ship.hatches hatch
+
+-- each hatch, with its place
+pub places_of : (ship : ShipView) → Each (λ (h : ℕ × ℕ). HasHatch ship h.0 × Unit {0}) (zip ship.hatches ship.places)
+places_of ship =
+    each_zip (λ h. HasHatch ship h) (λ _. Unit {0}) ship.hatches ship.places
+    (recursion_from_All (λ h. HasHatch ship h) ship.hatches
+    (λ k d low. (k, low, get_or_default ship.hatches k (slice_index_or ship.hatches k d) d low)))
+    (each_from (λ _. Unit {0}) ship.places (λ _. tt))
 
 -- who has the same move has the same name
 one_name : (ship : ShipView) → IsShip ship → (hatch : ℕ) (phase : Phase) (u : Task) (row : Row) → HasHatch ship hatch → HasHatch ship u.hatch
@@ -219,10 +227,6 @@ module _ (ship : ShipView) (is : IsShip ship) (rows : List Row) (rest : Instance
             ]
       ]
 
-  hatches_are : Each (λ h. HasHatch ship h) ship.hatches
-  hatches_are = recursion_from_All (λ h. HasHatch ship h) ship.hatches
-      (λ k d low. (k, low, get_or_default ship.hatches k (slice_index_or ship.hatches k d) d low))
-
   -- the moves that are left make the tasks that are left
   pub tasks_again : map (renewed rest.tasks) (filter (stays rest.tasks) (tasks_of ship rows)) ≡ tasks_of new left
   tasks_again =
@@ -231,4 +235,4 @@ module _ (ship : ShipView) (is : IsShip ship) (rows : List Row) (rest : Instance
       (each_weaker (λ (h : ℕ × ℕ). HasHatch ship h.0 × Unit {0}) _ (zip ship.hatches ship.places)
       (λ h at. part_flat (stays rest.tasks) (renewed rest.tasks) (tasks_at ship rows h.0 h.1) (tasks_at new left h.0 h.1) phases
       (each_from _ phases (λ phase. one_task h.0 h.1 phase at.0)))
-      (each_zip (λ h. HasHatch ship h) (λ _. Unit {0}) ship.hatches ship.places hatches_are (each_from (λ _. Unit {0}) ship.places (λ _. tt))))
+      (places_of ship))

@@ -24,6 +24,11 @@ fails_too : (a b : Bool) → (a ≡ true → b ≡ true) → b ≡ false → a �
 fails_too true b then fails = absurd (false≢true (sym fails ∙ then refl))
 fails_too false b then fails = refl
 
+pub any_agree : {X : Type 0} (p q : X → Bool) (xs : List X) → ((x : X) → p x ≡ q x) → list_any p xs ≡ list_any q xs
+any_agree p q [] same = refl
+any_agree p q (x ∷ xs) same =
+    ap (λ (b : Bool). b || list_any p xs) (same x) ∙ ap (λ (b : Bool). q x || b) (any_agree p q xs same)
+
 -- ---- a test of the part that is left
 
 module _ {X : Type 0} (p q : X → Bool) (so : (x : X) → p x ≡ true → q x ≡ true) where
@@ -75,6 +80,10 @@ filter_each {X = X} p q (x ∷ xs) each = elim (cases_Bool (q x)) [
 pub map_each : {X Y : Type 0} (f g : X → Y) (xs : List X) → Each (λ x. f x ≡ g x) xs → map f xs ≡ map g xs
 map_each f g [] each = refl
 map_each {Y = Y} f g (x ∷ xs) each = ap (λ (y : Y). y ∷ map f xs) each.0 ∙ ap (λ (ys : List Y). g x ∷ ys) (map_each f g xs each.1)
+
+pub map_twice : {X Y Z : Type 0} (g : Y → Z) (f : X → Y) (xs : List X) → map g (map f xs) ≡ map (λ x. g (f x)) xs
+map_twice g f [] = refl
+map_twice {Z = Z} g f (x ∷ xs) = ap (λ (zs : List Z). g (f x) ∷ zs) (map_twice g f xs)
 
 pub filter_of_map : {X Y : Type 0} (p : Y → Bool) (f : X → Y) (xs : List X) → filter p (map f xs) ≡ map f (filter (λ x. p (f x)) xs)
 filter_of_map p f [] = refl
