@@ -70,8 +70,7 @@ down_to room low = omega (arith, bays)
 
 -- ---- of a log that was followed
 
-module _ (names : Names) (files : Option Files) (worked : Worked) (is : IsWorked names files worked) (rest : Rest)
-    (by : IsRestBy (journal_of worked.followed) rest) where
+module _ (names : Names) (files : Option Files) (worked : Worked) (is : IsWorked names files worked) where
   abbrev j : Journal
   j = journal_of worked.followed
 
@@ -87,134 +86,135 @@ module _ (names : Names) (files : Option Files) (worked : Worked) (is : IsWorked
   made : c.inst ≡ instance_of cargo.ship cargo.moves
   made = sym (inst_of cargo.inst worked.load.sched is.text j is.followed) ∙ is.known.cargo.instance
 
-  feasible : Feasible c.inst c.plan
+  pub feasible : Feasible c.inst c.plan
   feasible =
       subst (λ (plan : List Slot). Feasible c.inst plan) (plan_of cargo.inst worked.load.sched is.text j is.followed)
       (subst (λ (i : InstanceView). Feasible i worked.load.sched) (inst_of cargo.inst worked.load.sched is.text j is.followed) is.feasible)
 
-  abbrev o : Outlook
-  o = record { course = c; over = over; stands = by.outlook.stands; goes = by.outlook.goes }
+  module _ (rest : Rest) (by : IsRestBy (journal_of worked.followed) rest) where
+    abbrev o : Outlook
+    o = record { course = c; over = over; stands = by.outlook.stands; goes = by.outlook.goes }
 
-  same_outlook : by.outlook ≡ o
-  same_outlook =
-      ap (λ (x : Course). record { course = x; over = by.outlook.over; stands = by.outlook.stands; goes = by.outlook.goes }) by.is.course
-      ∙ ap (λ (x : ℕ → ℕ). record { course = c; over = x; stands = by.outlook.stands; goes = by.outlook.goes }) by.is.over
+    same_outlook : by.outlook ≡ o
+    same_outlook =
+        ap (λ (x : Course). record { course = x; over = by.outlook.over; stands = by.outlook.stands; goes = by.outlook.goes }) by.is.course
+        ∙ ap (λ (x : ℕ → ℕ). record { course = c; over = x; stands = by.outlook.stands; goes = by.outlook.goes }) by.is.over
 
-  placed : ArePlaces o by.is.tops by.places
-  placed = subst (λ (x : Outlook). ArePlaces x by.is.tops by.places) same_outlook by.is.places_are
+    placed : ArePlaces o by.is.tops by.places
+    placed = subst (λ (x : Outlook). ArePlaces x by.is.tops by.places) same_outlook by.is.places_are
 
-  fit : (k : ℕ) → k < length c.inst.cranes → IsFit o by.places k
-  fit k low = subst (λ (x : Outlook). IsFit x by.places k) same_outlook (by.fit k low)
+    fit : (k : ℕ) → k < length c.inst.cranes → IsFit o by.places k
+    fit k low = subst (λ (x : Outlook). IsFit x by.places k) same_outlook (by.fit k low)
 
-  over_is : AreOver c over
-  over_is = over_known j by.known
+    over_is : AreOver c over
+    over_is = over_known j by.known
 
-  abbrev made_rest : InstanceView
-  made_rest = rest_of c over by.outlook.stands by.places
+    abbrev made_rest : InstanceView
+    made_rest = rest_of c over by.outlook.stands by.places
 
-  exact : IsExactRest c over by.outlook.stands by.places made_rest
-  exact =
-      rest_exact c over by.outlook.stands by.places is.valid is.keeps by.is.stands
-      (can_be o is.valid feasible is.keeps over_is by.is.stands by.is.goes by.is.tops by.places placed)
+    exact : IsExactRest c over by.outlook.stands by.places made_rest
+    exact =
+        rest_exact c over by.outlook.stands by.places is.valid is.keeps by.is.stands
+        (can_be o is.valid feasible is.keeps over_is by.is.stands by.is.goes by.is.tops by.places placed)
 
-  valid_rest : Valid made_rest
-  valid_rest =
-      rest_is_valid o is.valid feasible is.keeps over_is by.is.stands by.is.goes by.is.tops by.places placed (λ k low. (fit k low).ready)
-      (λ limits k low. (fit k low).berth)
+    valid_rest : Valid made_rest
+    valid_rest =
+        rest_is_valid o is.valid feasible is.keeps over_is by.is.stands by.is.goes by.is.tops by.places placed (λ k low. (fit k low).ready)
+        (λ limits k low. (fit k low).berth)
 
-  is_rest : IsRest c over by.outlook.stands rest.instance
-  is_rest = subst (λ (i : InstanceView). IsRest c over by.outlook.stands i) (sym by.instance) exact.is
+    is_rest : IsRest c over by.outlook.stands rest.instance
+    is_rest = subst (λ (i : InstanceView). IsRest c over by.outlook.stands i) (sym by.instance) exact.is
 
-  pub plans_the_whole : PlansTheWhole (record { worked = worked; rest = rest })
-  plans_the_whole = record {
-    keeps = λ new tasks sched good whole.
-        joined c over by.outlook.stands rest.instance new tasks sched is.valid feasible is.keeps over_is is_rest good whole;
-    ends_with = λ new tasks sched good whole moment. record {
-      by = subst (λ (now : ℕ). (ends (with_tasks c.inst tasks) sched ≤ moment)
-          ↔ (((i : ℕ) → i < length c.inst.tasks → HasBegun c i → end_of (with_tasks c.inst tasks) sched i ≤ moment)
-          × ((i : ℕ) → IsLeft c i → now + ends rest.instance new ≤ moment))) (sym by.clock)
-          (the_end c over by.outlook.stands rest.instance new tasks sched is.keeps is_rest good whole moment);
-    };
-  }
+    pub plans_the_whole : PlansTheWhole (record { worked = worked; rest = rest })
+    plans_the_whole = record {
+      keeps = λ new tasks sched good whole.
+          joined c over by.outlook.stands rest.instance new tasks sched is.valid feasible is.keeps over_is is_rest good whole;
+      ends_with = λ new tasks sched good whole moment. record {
+        by = subst (λ (now : ℕ). (ends (with_tasks c.inst tasks) sched ≤ moment)
+            ↔ (((i : ℕ) → i < length c.inst.tasks → HasBegun c i → end_of (with_tasks c.inst tasks) sched i ≤ moment)
+            × ((i : ℕ) → IsLeft c i → now + ends rest.instance new ≤ moment))) (sym by.clock)
+            (the_end c over by.outlook.stands rest.instance new tasks sched is.keeps is_rest good whole moment);
+      };
+    }
 
-  -- ---- what is left fits the ship
+    -- ---- what is left fits the ship
 
-  cranes_are : c.inst.cranes ≡ cargo.ship.cranes
-  cranes_are = ap (λ (i : InstanceView). i.cranes) made
+    cranes_are : c.inst.cranes ≡ cargo.ship.cranes
+    cranes_are = ap (λ (i : InstanceView). i.cranes) made
 
-  abbrev Reaches : ℤ → ℤ → Type 0
-  Reaches from to =
-      Contains (map pos cargo.ship.places) from × Contains (map pos cargo.ship.places) to × (from ≤ℤ to)
+    abbrev Reaches : ℤ → ℤ → Type 0
+    Reaches from to =
+        Contains (map pos cargo.ship.places) from × Contains (map pos cargo.ship.places) to × (from ≤ℤ to)
 
-  abbrev Starts : ℤ → Type 0
-  Starts x = (least_start cargo.ship.in_decimetres ≤ℤ x) × (x ≤ℤ greatest_start cargo.ship.in_decimetres)
+    abbrev Starts : ℤ → Type 0
+    Starts x = (least_start cargo.ship.in_decimetres ≤ℤ x) × (x ≤ℤ greatest_start cargo.ship.in_decimetres)
 
-  module _ (k : ℕ) (low : k < length made_rest.cranes) where
-    inside : k < length c.inst.cranes
-    inside = omega (arith, low, exact.is.cranes_count)
+    module _ (k : ℕ) (low : k < length made_rest.cranes) where
+      inside : k < length c.inst.cranes
+      inside = omega (arith, low, exact.is.cranes_count)
 
-    aboard : k < length cargo.ship.cranes
-    aboard = omega (arith, inside, ap (λ (cs : List Crane). length cs) cranes_are)
+      aboard : k < length cargo.ship.cranes
+      aboard = omega (arith, inside, ap (λ (cs : List Crane). length cs) cranes_are)
 
-    crane_same : crane c.inst k ≡ get_or cargo.ship.cranes k no_crane
-    crane_same = ap (λ (cs : List Crane). get_or cs k no_crane) cranes_are
+      crane_same : crane c.inst k ≡ get_or cargo.ship.cranes k no_crane
+      crane_same = ap (λ (cs : List Crane). get_or cs k no_crane) cranes_are
 
-    reaches : Reaches (crane made_rest k).from (crane made_rest k).to
-    reaches =
-        let now = exact.is.cranes k inside in
-        subst (λ (x : ℤ). Reaches (crane made_rest k).from x) (sym (now.to ∙ ap (λ (k : Crane). k.to) crane_same))
-        (subst (λ (x : ℤ). Reaches x (get_or cargo.ship.cranes k no_crane).to) (sym (now.from ∙ ap (λ (k : Crane). k.from) crane_same))
-        (is.known.cargo.ship.cranes.reach k no_crane aboard))
+      reaches : Reaches (crane made_rest k).from (crane made_rest k).to
+      reaches =
+          let now = exact.is.cranes k inside in
+          subst (λ (x : ℤ). Reaches (crane made_rest k).from x) (sym (now.to ∙ ap (λ (k : Crane). k.to) crane_same))
+          (subst (λ (x : ℤ). Reaches x (get_or cargo.ship.cranes k no_crane).to) (sym (now.from ∙ ap (λ (k : Crane). k.from) crane_same))
+          (is.known.cargo.ship.cranes.reach k no_crane aboard))
 
-    abbrev berth : ℤ
-    berth = (crane c.inst k).bay
+      abbrev berth : ℤ
+      berth = (crane c.inst k).bay
 
-    own_start : Starts berth
-    own_start = subst (λ (x : Crane). Starts x.bay) (sym crane_same) (is.known.cargo.ship.cranes.starts k no_crane aboard)
+      own_start : Starts berth
+      own_start = subst (λ (x : Crane). Starts x.bay) (sym crane_same) (is.known.cargo.ship.cranes.starts k no_crane aboard)
 
-    begins : Starts (by.places k)
-    begins = elim (cases_Bool cargo.ship.in_decimetres) [
-      | inl given ↦ rw given (fit k inside).berth
-      | inr counted ↦
-          let own : (negsuc 199 ≤ℤ berth) × (berth ≤ℤ pos 300) = rw counted at own_start in
-          let gap_is : c.inst.gap ≡ cargo.ship.gap = ap (λ (i : InstanceView). i.gap) made in
-          let gap_low = rw counted at is.known.cargo.ship.times.gap.1 in
-          let few = is.known.cargo.ship.cranes.count.1 in
-          let above = length c.inst.cranes - (k + 1) in
-          let bays_are : c.inst.bays ≡ greatest_place cargo.ship = ap (λ (i : InstanceView). i.bays) made in
-          let counted_low = bays_counted cargo.ship is.known.cargo.ship counted in
-          rw counted (
-            places_above o is.valid by.is.stands by.is.tops by.places placed k above (negsuc 199) (omega (arith, inside)) (omega (arith, inside))
-                (down_to (c.inst.gap * above) (room_for c.inst.gap above (omega (arith, gap_is, gap_low))
-                (omega (arith, inside, few, ap (λ (cs : List Crane). length cs) cranes_are)))) own.0,
-            places_below o is.valid by.is.stands by.is.tops by.places placed k (pos 300) inside
-                (up_to c.inst.bays (c.inst.gap * k) (omega (arith, bays_are, counted_low)) (room_for c.inst.gap k (omega (arith, gap_is, gap_low))
-                (omega (arith, aboard, few)))) own.1,
-          )
-    ]
+      begins : Starts (by.places k)
+      begins = elim (cases_Bool cargo.ship.in_decimetres) [
+        | inl given ↦ rw given (fit k inside).berth
+        | inr counted ↦
+            let own : (negsuc 199 ≤ℤ berth) × (berth ≤ℤ pos 300) = rw counted at own_start in
+            let gap_is : c.inst.gap ≡ cargo.ship.gap = ap (λ (i : InstanceView). i.gap) made in
+            let gap_low = rw counted at is.known.cargo.ship.times.gap.1 in
+            let few = is.known.cargo.ship.cranes.count.1 in
+            let above = length c.inst.cranes - (k + 1) in
+            let bays_are : c.inst.bays ≡ greatest_place cargo.ship = ap (λ (i : InstanceView). i.bays) made in
+            let counted_low = bays_counted cargo.ship is.known.cargo.ship counted in
+            rw counted (
+              places_above o is.valid by.is.stands by.is.tops by.places placed k above (negsuc 199) (omega (arith, inside)) (omega (arith, inside))
+                  (down_to (c.inst.gap * above) (room_for c.inst.gap above (omega (arith, gap_is, gap_low))
+                  (omega (arith, inside, few, ap (λ (cs : List Crane). length cs) cranes_are)))) own.0,
+              places_below o is.valid by.is.stands by.is.tops by.places placed k (pos 300) inside
+                  (up_to c.inst.bays (c.inst.gap * k) (omega (arith, bays_are, counted_low)) (room_for c.inst.gap k (omega (arith, gap_is, gap_low))
+                  (omega (arith, aboard, few)))) own.1,
+            )
+      ]
 
-    starts_at : Starts (crane made_rest k).bay
-    starts_at = subst Starts (sym (exact.placed k inside)) begins
+      starts_at : Starts (crane made_rest k).bay
+      starts_at = subst Starts (sym (exact.placed k inside)) begins
 
-  is_aboard : IsAboard cargo.ship made_rest
-  is_aboard = record {
-    gap = exact.is.gap ∙ ap (λ (i : InstanceView). i.gap) made;
-    hatches = λ i low. All-from_recursion (λ (t : Task). HasHatch cargo.ship t.hatch) made_rest.tasks
-        (hatches_left cargo.ship is.known.cargo.ship cargo.moves c over by.outlook.stands by.places is.valid is.keeps made) i no_task low;
-    reach = reaches;
-    starts = starts_at;
-  }
+    is_aboard : IsAboard cargo.ship made_rest
+    is_aboard = record {
+      gap = exact.is.gap ∙ ap (λ (i : InstanceView). i.gap) made;
+      hatches = λ i low. All-from_recursion (λ (t : Task). HasHatch cargo.ship t.hatch) made_rest.tasks
+          (hatches_left cargo.ship is.known.cargo.ship cargo.moves c over by.outlook.stands by.places is.valid is.keeps made) i no_task low;
+      reach = reaches;
+      starts = starts_at;
+    }
 
-  ship_made : IsShip (rest_ship cargo.ship made_rest)
-  ship_made = rest_ship_kept cargo.ship made_rest is.known.cargo.ship valid_rest is_aboard
+    ship_made : IsShip (rest_ship cargo.ship made_rest)
+    ship_made = rest_ship_kept cargo.ship made_rest is.known.cargo.ship valid_rest is_aboard
 
-  pub ship_kept : IsShip (rest_ship cargo.ship rest.instance)
-  ship_kept = subst (λ (i : InstanceView). IsShip (rest_ship cargo.ship i)) (sym by.instance) ship_made
+    pub ship_kept : IsShip (rest_ship cargo.ship rest.instance)
+    ship_kept = subst (λ (i : InstanceView). IsShip (rest_ship cargo.ship i)) (sym by.instance) ship_made
 
-  pub valid_now : Valid rest.instance
-  valid_now = subst Valid (sym by.instance) valid_rest
+    pub valid_now : Valid rest.instance
+    valid_now = subst Valid (sym by.instance) valid_rest
 
-  pub files_give : instance_of (rest_ship cargo.ship rest.instance) (left_rows rest.instance.tasks cargo.moves) ≡ rest.instance
-  files_give =
-      subst (λ (i : InstanceView). instance_of (rest_ship cargo.ship i) (left_rows i.tasks cargo.moves) ≡ i) (sym by.instance)
-      (instance_given cargo.ship is.known.cargo.ship cargo.moves c over by.outlook.stands by.places is.valid is.keeps made)
+    pub files_give : instance_of (rest_ship cargo.ship rest.instance) (left_rows rest.instance.tasks cargo.moves) ≡ rest.instance
+    files_give =
+        subst (λ (i : InstanceView). instance_of (rest_ship cargo.ship i) (left_rows i.tasks cargo.moves) ≡ i) (sym by.instance)
+        (instance_given cargo.ship is.known.cargo.ship cargo.moves c over by.outlook.stands by.places is.valid is.keeps made)

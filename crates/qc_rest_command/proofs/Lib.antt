@@ -5,5 +5,6 @@ pub mod GivenLemmas
 pub mod GivenTasks
 pub mod KnownLemmas
 pub mod ReadBackLemmas
+pub mod OneRestLemmas
 pub mod StoreLemmas
 pub mod RestLemmas

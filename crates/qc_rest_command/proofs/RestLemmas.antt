@@ -1,11 +1,14 @@
 -- What follows from the account of the files of what is left.
 use Rattle.std.proofs.Common.{◌≡◌, ◌≢◌, ◌⊎◌, ◌∙◌, ℕ, List, Option, None, Some, Result, Ok, Err, IfSome, refl, sym, subst, inl, inr}
 use Rattle.qc_dispatch.specs.Following.{journal_of}
+use Rattle.qc_dispatch.specs.Journal.{Journal}
+use Rattle.qc_dispatch.specs.Promises.{Keeps}
 use Rattle.qc_io.specs.Outside.{Files, View}
-use Rattle.qc_model.specs.Instance.{InstanceView}
+use Rattle.qc_model.specs.Instance.{InstanceView, Valid}
 use Rattle.qc_model.specs.Rules.{Feasible}
 use Rattle.qc_rest.specs.declared.rest.RestError.{RestError}
 use Rattle.qc_rest.specs.declared.rest.RestError.TheVariants as error
+use Rattle.qc_rest.specs.Whole.{IsNoRest}
 use Rattle.qc_run.specs.declared.inputs.Input.TheVariants as input
 use Rattle.qc_run.specs.declared.no_rest.NoRest.{NoRest}
 use Rattle.qc_run.specs.declared.refusal.Stop.{Stop}
@@ -26,10 +29,11 @@ use Rattle.qc_rest_command.specs.declared.answer.Renewing.{Renewing}
 use Rattle.qc_rest_command.specs.declared.answer.Renewing.TheVariants as renewing
 use Rattle.qc_rest_command.specs.Account.{IsRenewing, IsRestRun}
 use Rattle.qc_rest_command.specs.Promises.{IsBrokenPrinted, IsDoneTold, IsKept, IsNonePrinted, IsStopTold, RestPromises}
-use Rattle.qc_rest_command.specs.Ends.{EndsJudged, EndsLogged, EndsRest}
+use Rattle.qc_rest_command.specs.Ends.{EndsJudged, EndsLogged, EndsRest, HasNoRest}
 use Rattle.qc_rest_command.specs.Texts.{TellsNoRest, renewing_status, renewing_text}
 use Rattle.qc_rest_command.specs.Worked.{IsLogRefused, StopsRest}
 use Rattle.qc_rest_command.proofs.KnownLemmas.{plans_the_whole}
+use Rattle.qc_rest_command.proofs.OneRestLemmas.{not_both}
 
 own : (a : Renewing) → IsOwn (renewing_status a)
 own renewing.WriteFault = tt
@@ -165,8 +169,17 @@ module _ (asked : Replanning) (before after pb pa : View) (ended : Status) (run 
       | inr faulty ↦ log_refused at_log.load at_log.due at_log.feasible why faulty
     ]
 
-    no_memory : (inst : InstanceView) (error : RestError) (no_rest : NoRest) → TellsNoRest inst error no_rest → error ≢ error.OutOfMemory
-    no_memory inst error no_rest tells e = subst (λ (x : RestError). TellsNoRest inst x no_rest) e tells
+    no_memory : (inst : InstanceView) (it : RestError) (no_rest : NoRest) → TellsNoRest inst it no_rest → it ≢ error.OutOfMemory
+    no_memory inst it no_rest tells e = subst (λ (x : RestError). TellsNoRest inst x no_rest) e tells
+
+    no_rest_of : (j : Journal) → Valid j.course.inst → Keeps j.course → (it : RestError) → IsNoRest j it → it ≢ error.OutOfMemory
+        → HasNoRest j
+    no_rest_of j valid keeps it why other = record {
+      error = it;
+      why = why;
+      no_memory = other;
+      no_rest = λ has. not_both j valid keeps has.0 has.1 it why other;
+    }
 
     answer_ends : (r : Result Renewing Stop) → account r → Ends (answer_status renewing_status r)
     answer_ends (Err why) serves = ends_stopped why serves.0
@@ -180,7 +193,11 @@ module _ (asked : Replanning) (before after pb pa : View) (ended : Status) (run 
         through is.worked.load work.due work.feasible work.text work.log status.NoRest (inl (record {
           journal = journal_of is.worked.followed;
           followed = work.followed;
-          by = inr (refl, record { error = is.error; why = is.none; no_memory = no_memory is.worked.followed.dispatch.inst is.error shown is.tells });
+          by = inr (
+            refl,
+            no_rest_of (journal_of is.worked.followed) work.valid work.keeps is.error is.none
+                (no_memory is.worked.followed.dispatch.inst is.error shown is.tells),
+          );
         }))
     answer_ends (Ok (renewing.Renewed shown)) serves =
         let ready = serves.0.ready in

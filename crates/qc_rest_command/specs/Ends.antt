@@ -5,7 +5,7 @@ use Rattle.qc_dispatch.specs.Journal.{IsFaulty, IsFollowed, Journal}
 use Rattle.qc_model.specs.Rules.{Feasible}
 use Rattle.qc_rest.specs.declared.rest.Rest.{Rest}
 use Rattle.qc_rest.specs.declared.rest.RestError.{RestError}
-use Rattle.qc_rest.specs.declared.rest.RestError.TheVariants as error
+use Rattle.qc_rest.specs.declared.rest.RestError.TheVariants as refused
 use Rattle.qc_rest.specs.Whole.{IsNoRest, IsRestBy}
 use Rattle.qc_run.specs.declared.inputs.Input.TheVariants as input
 use Rattle.qc_run.specs.declared.status.Status.{Status}
@@ -19,13 +19,14 @@ use Rattle.qc_sheet_command.specs.Due.{load_due}
 abbrev pub HasRest : Journal → Type 0
 HasRest j = (rest : Rest) × IsRestBy j rest
 
--- there is none, for a task or for a crane
+-- there is none, since a task is due or a crane isn't fit
 pub record HasNoRest (j : Journal) : Type 0 where
   pub error : RestError
   pub why : IsNoRest j error
-  pub no_memory : error ≢ error.OutOfMemory
+  pub no_memory : error ≢ refused.OutOfMemory
+  pub no_rest : ¬ HasRest j
 
--- the log was followed: it ends with 0 where there is a rest, else with NoRest
+-- the log was followed: it ends with 0 exactly where there is a rest, else with NoRest
 pub record EndsFollowed (load : Load) (text : List ℕ) (ended : Status) : Type 0 where
   pub journal : Journal
   pub followed : IsFollowed load.cargo.inst load.sched text journal
