@@ -13,7 +13,7 @@ use Rattle.qc_model.specs.Bays.{bays_between}
 use Rattle.qc_model.specs.Rules.{Feasible, crane_of, start_of}
 use Rattle.qc_model.specs.Ticks.{travel_between}
 use Rattle.qc_model.proofs.Bays.{bays}
-use Rattle.qc_model.proofs.LimitsOf.{limits_of}
+use Rattle.qc_model.proofs.LimitsOf.{travel_of}
 use Rattle.qc_rest.specs.declared.rest.Rest.{Rest}
 use Rattle.qc_rest.specs.declared.rest.RestError.{RestError}
 use Rattle.qc_rest.specs.declared.rest.RestError.TheVariants as error
@@ -41,7 +41,7 @@ module _ (c : Course) (over : ℕ → ℕ) (valid : Valid c.inst) (keeps : Keeps
   no_way i j one none =
       let travel = travel_between c.inst (bay_of c.inst i) (bay_of c.inst j) in
       let is : gap c.inst c.plan i j ≡ travel = cond-true (crane_of c.plan i == crane_of c.plan j) travel _ (eq-eqb (crane_of c.plan i) (crane_of c.plan j) one) in
-      no_bays c.inst.travel (bays_between (bay_of c.inst i) (bay_of c.inst j)) (bay_of c.inst i) (bay_of c.inst j) (limits_of c.inst valid).travel.0 refl
+      no_bays c.inst.travel (bays_between (bay_of c.inst i) (bay_of c.inst j)) (bay_of c.inst i) (bay_of c.inst j) (travel_of c.inst valid).0 refl
       (omega (arith, is, none))
 
   one_bay : (k i j : ℕ) → IsLastOf c over k i → IsLastOf c over k j → over i ≡ over j → bay_of c.inst i ≡ bay_of c.inst j
