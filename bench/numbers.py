@@ -45,7 +45,7 @@ sys.path.append(str(ROOT / "trials"))
 
 from tried import add_program, program_of
 
-USUAL, MOST = 20_000, 100_000  # branchings where none are given, and at the most
+USUAL, MOST = 20_000, 100_000  # branchings where none are given, and the most that are tried
 
 # Hatches and cranes of the made ships of the first table.
 SIZES = [(8, 2), (10, 3), (12, 3), (15, 3), (20, 4), (30, 5), (40, 6), (50, 7), (60, 8)]
@@ -391,7 +391,7 @@ def short(kept):
     if rows:
         slow = max(rows, key=lambda row: row["seconds"])
         rest = max((row for row in rows if not row["command"].endswith("check")), key=lambda row: row["seconds"])
-        yield (f"- Of the other commands on the greatest files (50,000 moves, logs and trees at their limits) "
+        yield (f"- Of the other commands on the greatest files (50,000 moves, logs at their limit, trees of 100,000 branchings) "
                f"`{slow['command']}` takes longest, {seconds_text(slow['seconds'])} s ({slow['what']}); all but the checks at most "
                f"{seconds_text(rest['seconds'])} s; at most {max(row['memory'] for row in rows):.1f} MB.")
     yield from short_solvers(kept.get("solvers", {}).get("rows", []))

@@ -22,7 +22,7 @@ _qc() {
         plan:--from:= | free:--from:=) word= ;;
         plan:--from:* | free:--from:*) ;;
         plan:--nodes:= | plan:--nodes:* | free:--nodes:= | free:--nodes:*)
-            mapfile -t COMPREPLY < <(compgen -W '0 1000 20000 100000' -- "${word#=}")
+            mapfile -t COMPREPLY < <(compgen -W '0 1000 20000 1000000' -- "${word#=}")
             return
             ;;
         odds:--seed:* | odds:--by:*) return ;;

@@ -34,7 +34,7 @@ complete -c qc -n __qc_wants_command -f -l version -d 'which program this is'
 complete -c qc -n '__qc_wants_command; and test (count (commandline -opc)) -eq 1' -f -s q -d 'say nothing on standard error'
 complete -c qc -f -l help -d 'what the program or a command does'
 complete -c qc -n '__qc_is make' -f
-complete -c qc -n '__qc_is plan; or __qc_is free' -l nodes -x -a '0 1000 20000 100000' -d 'at most so many branchings'
+complete -c qc -n '__qc_is plan; or __qc_is free' -l nodes -x -a '0 1000 20000 1000000' -d 'at most so many branchings'
 complete -c qc -n '__qc_is plan; or __qc_is free' -l from -r -F -d 'a plan to begin with'
 complete -c qc -n '__qc_is odds' -l runs -x -a '100 1000 10000' -d 'so many runs'
 complete -c qc -n '__qc_is odds' -l seed -x -d 'what the draws begin with'

@@ -18,7 +18,7 @@ _qc() {
     (( CURRENT -= first - 1 ))
     case $name in
         plan|free)
-            _arguments '--nodes=[at most so many branchings]:N:(0 1000 20000 100000)' \
+            _arguments '--nodes=[at most so many branchings]:N:(0 1000 20000 1000000)' \
                 '--from=[a plan to begin with]:OWN:_files' '--help[what the command does]' '*:file:_files'
             ;;
         odds)

@@ -36,7 +36,7 @@ SEARCHES = ("plan", "free")
 WRITTEN = {"moves": ["list"], "rest": ["newship", "newstow", "neworder"]}
 # The word for a file in a report, where it isn't that of its role.
 WORDS = {"freetree": "tree", "events": "log", "places": "log"}
-NUMBERS = {"--nodes": (0, 100_000), "--runs": (1, 10_000), "--seed": (0, 2_147_483_647), "--by": (0, 999_999_999_999)}
+NUMBERS = {"--nodes": (0, 1_000_000), "--runs": (1, 10_000), "--seed": (0, 2_147_483_647), "--by": (0, 999_999_999_999)}
 OPTIONS = {"plan": ("--nodes", "--from"), "free": ("--nodes", "--from"), "odds": ("--runs", "--seed", "--by")}
 
 

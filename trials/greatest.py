@@ -1,15 +1,16 @@
 #!/usr/bin/env python3
 """Gives the built program the longest logs, most past tasks, largest trees and files at their limits, and prints what it took.
 
-    trials/greatest.py [--program FILE] [--nodes 100000] [--only WORD]
+    trials/greatest.py [--program FILE] [--nodes 1000000] [--only WORD]
 
 For each trial: `ok` or `WRONG`, what was tried, status and first line of the report, processor seconds, and the most
 memory in MB. Those of trees plan the made ship 2 of 60 hatches and 8 cranes with so many branchings, one way and to and
 fro, and judge both answers by `check` and `freecheck`, with the plan and without; what these say must be what the search
-said. It ends with 1 where another status or first line came than was wanted, or more than 512 MB were taken. Which
-program FILE is, tried.py says.
+said. Trees that are made here have the most branchings, and one more. It ends with 1 where another status or first line
+came than was wanted, more than 512 MB were taken, or more than a second by `rest`. Which program FILE is, tried.py says.
 """
 import argparse
+import functools
 import runpy
 import subprocess
 import sys
@@ -21,9 +22,11 @@ sys.dont_write_bytecode = True  # no folder of compiled files beside the scripts
 from tried import add_program, commands_of, program_of
 
 ROOT = Path(__file__).resolve().parent.parent
-made = runpy.run_path(str(ROOT / "bench" / "ships.py"))["made"]
+ships = runpy.run_path(str(ROOT / "bench" / "ships.py"))
+made, full = ships["made"], ships["full"]
 
 LIMIT = 8_388_608  # bytes of a file but for trees
+MOST = 1_000_000  # branchings of a tree
 # Runs a command and notes what it took; from a process of its own, whose memory is small, since that of the process that
 # begins another is counted with it.
 MEASURE = """import os, sys
@@ -50,10 +53,10 @@ class Room:
         lines = (self.folder / "report").read_text("latin-1").splitlines()
         return int(status), lines, float(seconds), int(most) / 1024
 
-    def expect(self, what, words, status, first):
-        """Runs it; `first`: one of the first lines that are wanted, or None for any."""
+    def expect(self, what, words, status, first, within=1e9):
+        """Runs it; `first`: one of the first lines that are wanted, or None for any; `within`: so many seconds."""
         seen, lines, seconds, most = self.run(words)
-        right = seen == status and most < 512 and (first is None or lines[:1] and lines[0] in first)
+        right = seen == status and most < 512 and seconds < within and (first is None or lines[:1] and lines[0] in first)
         self.wrong += not right
         told = lines[0][:70] if lines else ""
         print(f"{'ok   ' if right else 'WRONG'} {what}: {words[0]} {seen} {told}; {seconds:.2f} s, {most:.0f} MB", flush=True)
@@ -83,11 +86,41 @@ def logs(room):
         room.expect(f"{count} reported places", ["watch", "s", "w"], status, first)
     for number in (100_000, 50_000, 10_000) if "rest" in commands_of(room.program) else ():
         room.write("h", "".join(line + "\n" for line in lines[:number]).encode())
-        room.expect(f"what is left behind a log of {number} lines", ["rest", "s", "m", "p", "h", "ns", "nm", "o"], 0, None)
+        room.expect(f"what is left behind a log of {number} lines", ["rest", "s", "m", "p", "h", "ns", "nm", "o"], 0, None, 1)
     room.write("w", "".join(f"{k} C1 {1 + k % 2}\n" for k in range(199_998)).encode() + b"0 C2 9\n199997 C2 2\n")
     room.expect("200,000 places of two cranes that come too near at the end", ["watch", "s", "w"], 18, None)
     for command in ("sheet", "picture", "report", "show"):
         room.expect("that plan", [command, "s", "m", "p"], 0, None)
+
+
+def half_done(plan, count):
+    """A log of so many lines up to the middle of a plan: half of them ticks, the others what tasks that run still need."""
+    rows = [line.split(",") for line in plan.splitlines()[1:]]
+    middle = max(int(row[3]) for row in rows) // 2
+    ends = sorted((int(row[3]), row[0]) for row in rows if int(row[3]) <= middle)
+    running = [f"left {row[0]} {int(row[3]) - middle}" for row in rows if int(row[2]) < middle < int(row[3])]
+    lines, now = [], 0
+    for end, task in ends:
+        lines += [f"tick {end - now}"] * (end > now) + [f"done {task}"]
+        now = end
+    spare = min(middle - now, count // 2)
+    lines += [f"tick {middle - now - spare}"] * (middle - now > spare) + ["tick 1"] * spare
+    return lines + [running[k % len(running)] for k in range(count - len(lines))]
+
+
+def left(room):
+    """What is left in the middle of a plan of 240 tasks and 49,940 moves on 8 cranes, by the longest log."""
+    ship, rows = full(1, 60, 8)
+    room.write("s", ("\n".join(ship) + "\n").encode()), room.write("m", ("\n".join(rows) + "\n").encode())
+    room.expect("a plan of 240 tasks", ["plan", "s", "m", "p", "t", "--nodes", "0"], 11, ["Budget"])
+    lines = half_done((room.folder / "p").read_text(), 100_000)
+    words = ["rest", "s", "m", "p", "h", "ns", "nm", "o"]
+    for count, status, first in ((100_000, 0, None), (100_001, 17, ["BadLog TooMany 100001"])):
+        room.write("h", "".join(line + "\n" for line in (lines + lines[-1:])[:count]).encode())
+        told = room.expect(f"a log of {count} lines up to its middle", words, status, first, 1)
+        if status == 0:
+            print("     " + ", ".join(told[:2] + told[-2:]))
+    room.expect("what is left, planned anew", ["plan", "ns", "nm", "p2", "t2", "--nodes", "0", "--from", "o"], 11, ["Budget"])
 
 
 def chances(room):
@@ -178,16 +211,46 @@ def limits(room):
         room.expect(f"a log of one line of {LIMIT:,} bytes", words, 17, ["BadLog Line 1"])
 
 
+@functools.cache
+def tree(task, count):
+    """The lines of a node and of all below it, so many of which branch: on tasks from this one on, over eight cranes, in
+    the first children that have room for it down to the 9th task. Leaves are empty chains."""
+    if count == 0:
+        return b"P\n"
+    lines, left, room = b"A %d\n" % task, count - 1, (8 ** (9 - task) - 1) // 7
+    for _ in range(8):
+        lines += tree(task + 1, min(left, room))
+        left -= min(left, room)
+    assert left == 0
+    return lines
+
+
+def edges(room):
+    """Trees of the most branchings, and of one more: the fault stands where that one does."""
+    ship, rows = made(2, 60, 8)
+    room.write("s", ("\n".join(ship) + "\n").encode()), room.write("m", ("\n".join(rows) + "\n").encode())
+    for count in (MOST, MOST + 1):
+        parts = {"check": b"QCTREE 3\nup\n" + tree(1, 600_000) + b"down\n" + tree(1, count - 600_000),
+                 "freecheck": b"QCFREE 1\n" + tree(1, count)}
+        for command, nodes in parts.items():
+            room.write("t", nodes + b"end %d 0\n" % count)
+            line = nodes[:nodes.rindex(b"A")].count(b"\n") + 1
+            first = "Bound 0" if count == MOST else f"BadTree Branchings {line}"
+            room.expect(f"a tree of {count:,} branchings", [command, "s", "m", "-", "t"], 0 if count == MOST else 7, [first])
+
+
 def main():
     parser = argparse.ArgumentParser(description="the longest logs, the largest trees, files at their limits")
     add_program(parser)
-    parser.add_argument("--nodes", type=int, default=100_000)
-    parser.add_argument("--only", default="", help="logs, chances, trees or limits")
+    parser.add_argument("--nodes", type=int, default=MOST)
+    parser.add_argument("--only", default="", help="logs, chances, left, trees or limits")
     words = parser.parse_args()
     program = program_of(words)
     with tempfile.TemporaryDirectory(prefix="greatest-") as folder:
         room = Room(program, folder)
-        for name, part in (("logs", logs), *[("chances", chances)] * ("odds" in commands_of(program)), ("limits", limits), ("trees", lambda room: trees(room, words.nodes))):
+        known = commands_of(program)
+        for name, part in (("logs", logs), *[("chances", chances)] * ("odds" in known), *[("left", left)] * ("rest" in known),
+                           ("limits", limits), ("edges", edges), ("trees", lambda room: trees(room, words.nodes))):
             if words.only in name:
                 part(room)
     print(f"{room.wrong} wrong")

@@ -3,9 +3,10 @@
 
     trials/mistakes.py [NAME ..] [--program FILE]
 
-The mistakes are those of trials/mistakes/table.py, and of bay_plans.py and past_tasks.py beside it: the files of an
-example with one change each. Each is made and run in a folder of its own. The exit status, the first line of the report and all lines on standard error must be those of the
-table, and every file but those that `plan` writes as it was. Each is run again with -q as the first word: the report must
+The mistakes are those of trials/mistakes/table.py, and of bay_plans.py, past_tasks.py and what_is_left.py beside it: the
+files of an example with one change each. Each is made and run in a folder of its own. The exit status, the first line of
+the report and all lines on standard error must be those of the table, and every file but those that `plan` writes as it
+was. Each is run again with -q as the first word: the report must
 be the same to the byte, and nothing may come on standard error. With NAME only the mistakes of those names are tried. It
 ends with 1 where anything differs. Which program FILE is, tried.py says.
 """
@@ -24,9 +25,10 @@ from bay_plans import BAY_PLANS
 from past_tasks import PAST_TASKS
 from table import BASES, MISTAKES as OTHERS
 from tried import add_program, program_of
+from what_is_left import WHAT_IS_LEFT
 
 
-MISTAKES = OTHERS + BAY_PLANS + PAST_TASKS
+MISTAKES = OTHERS + BAY_PLANS + PAST_TASKS + WHAT_IS_LEFT
 
 
 def begun(base):

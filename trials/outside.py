@@ -10,6 +10,8 @@ were, whatever stops a run, is tried by whole.py. Which program FILE is, tried.p
 """
 import argparse
 import os
+import pty
+import re
 import resource
 import shutil
 import signal
@@ -18,6 +20,7 @@ import sys
 import tempfile
 import threading
 import time
+import tty
 
 sys.dont_write_bytecode = True  # no folder of compiled files beside the scripts
 
@@ -487,6 +490,76 @@ def changes_meanwhile():
          f"{right - 20 + killed} times neither file is there, {begun} times a part of the tree is left behind")
 
 
+def at_a_terminal(room, words):
+    """The status of a run whose output and error are a terminal, and what it writes there."""
+    ours, its = pty.openpty()
+    tty.setraw(its)
+    pieces = []
+
+    def listen():
+        try:
+            while piece := os.read(ours, 65536):
+                pieces.append(piece)
+        except OSError:
+            pass  # the run's end is closed
+    thread = threading.Thread(target=listen)
+    thread.start()
+    ran = subprocess.run([program] + words, cwd=room.path, stdin=subprocess.DEVNULL, stdout=its, stderr=its, timeout=100)
+    os.close(its)
+    thread.join()
+    os.close(ours)
+    return ran.returncode, b"".join(pieces)
+
+
+def lines_told(written):
+    """The lines that are written over, of which one is empty where it is cleared, and what stands behind them."""
+    lines = re.match(rb"(?:\r[^\r\x1b]*\x1b\[K)*", written)
+    return re.findall(rb"\r([^\r\x1b]*)\x1b\[K", lines[0]), written[lines.end():]
+
+
+def told_at_a_terminal(name, room, words, are_due):
+    """Tries a command at a terminal: these lines are due, the last one clears the line, and the report stands behind it.
+    With `-q`, or where standard error is none, there is no line."""
+    ran = room.run(words)
+    status, written = at_a_terminal(room, words)
+    lines, rest = lines_told(written)
+    told(f"{name}, at a terminal", status == ran.returncode and are_due(lines) and rest.startswith(ran.stdout),
+         f"status {status}; {len(lines)} lines, the last {lines[-2:]}; then the report")
+    quiet = at_a_terminal(room, ["-q"] + words)
+    told(f"{name}, at a terminal with -q", quiet == (ran.returncode, ran.stdout), "the report alone")
+    piped = subprocess.run([program] + words, cwd=room.path, capture_output=True, stdin=subprocess.DEVNULL, timeout=100)
+    told(f"{name}, standard error is a pipe", piped.stdout == ran.stdout and not re.search(rb"[\r\x1b]", piped.stderr), "no line")
+
+
+def number_in(name, line):
+    """The number behind a name in a line, if it is there."""
+    found = re.search(rb", " + name + rb" ([0-9,]+)", line)
+    return int(found[1].replace(b",", b"")) if found else None
+
+
+def is_search_told(lines):
+    """Whether lines tell of a first plan and then of each thousand branchings of 3,000, ends fall, and the last clears."""
+    *lines, last = lines or [b"none"]
+    form = re.compile(rb"(first plan|[0-9]{1,3}(,[0-9]{3})* branchings)(, end [0-9,]+)?(, bound [0-9,]+)?")
+    ends = [end for end in (number_in(b"end", line) for line in lines) if end is not None]
+    begun = [line.startswith(b"first plan") for line in lines]
+    return (last == b"" and all(form.fullmatch(line) for line in lines) and ends == sorted(ends, reverse=True)
+            and begun == sorted(begun, reverse=True) and begun[:1] == [True]
+            and all(any(line.startswith(b"%d,000 branchings, end " % n) for line in lines) for n in (1, 2, 3)))
+
+
+def terminals():
+    room = Room(VESSEL, VESSEL_STOW)
+    told_at_a_terminal("plan of the vessel", room, PLANNED + ["--nodes", "3000"], is_search_told)
+    if "odds" not in commands_of(program):
+        return
+    room = Room().fill()
+    few = ["odds", "s", "m", "p", "q", "--runs"]
+    for runs, due in ((1000, []), (2000, []), (2001, [b"2,000 of 2,001 runs", b""]),
+                      (5000, [b"2,000 of 5,000 runs", b"3,000 of 5,000 runs", b"4,000 of 5,000 runs", b""])):
+        told_at_a_terminal(f"odds with {runs} runs", room, few + [str(runs)], lambda lines, due=due: lines == due)
+
+
 def main():
     global program
     parser = argparse.ArgumentParser(description="runs where the outside fails")
@@ -501,6 +574,7 @@ def main():
     same_files()
     output()
     changes_meanwhile()
+    terminals()
     for name in os.listdir(tempfile.gettempdir()):
         if name.startswith("qc-trial-"):
             shutil.rmtree(os.path.join(tempfile.gettempdir(), name), ignore_errors=True)

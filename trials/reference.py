@@ -631,7 +631,7 @@ LINES = [(re.compile(pattern), kind) for pattern, kind in (
     (rb"P" + TASK_LIST % b"0,240", "P"), (rb"C" + TASK_LIST % b"2,240", "C"),
     (rb"Q" + TASK_LIST % b"1,240", "Q"),
     (rb"W ([1-9][0-9]{0,14})", "W"),
-    (rb"end ((?:0|[1-9][0-9]{0,5}) (?:0|[1-9][0-9]{0,14}|never))", "end"))]
+    (rb"end ((?:0|[1-9][0-9]{0,6}) (?:0|[1-9][0-9]{0,14}|never))", "end"))]
 
 
 def parse_line(text):
@@ -717,7 +717,7 @@ class TreeReader:
             self.expect_pair(node, *numbers)
         if node.crane[numbers[0]] is not None if kind == "A" else node.is_settled(*numbers):
             raise TreeFault("Decided", self.number)
-        if self.branched == 100_000:
+        if self.branched == 1_000_000:
             raise TreeFault("Branchings", self.number)
         self.branched += 1
         if kind == "A":

@@ -178,7 +178,7 @@ MISTAKES = [
      ["qc: note: no plan goes one way; qc free looks for one in which cranes go to and fro"]),
     ("an old plan beside no plan", "first", "plan ship.toml stow.csv plan.csv newtree.txt --nodes 0",
      {"ship.toml": ORDERED_SHIP, "stow.csv": ORDERED_LIST}, 12, "Budget",
-     ["qc: note: no plan was found yet: --nodes N allows up to 100000 branchings, and --from OWN begins with a plan of yours",
+     ["qc: note: no plan was found yet: --nodes N allows up to 1000000 branchings, and --from OWN begins with a plan of yours",
       "qc: note: plan.csv: this plan was there before and isn't of this run"]),
     # ---- ship files that are no TOML
     ship("decimal comma", [("travel = 60\n", "travel = 1,5\n")], "BadShip NotToml",
@@ -728,14 +728,14 @@ MISTAKES = [
     usage("a word with a dash for OWN, to and fro", "free ship.toml stow.csv new.csv newtree.txt --from -x",
           ["qc: behind --from its value is missing"]),
     usage("branchings below 0", PLAN + " --nodes -5",
-          ['qc: N behind --nodes can\'t be "-5": it is a whole number from 0 to 100000, in digits alone and without a '
+          ['qc: N behind --nodes can\'t be "-5": it is a whole number from 0 to 1000000, in digits alone and without a '
            'leading 0']),
     usage("nodes twice", PLAN + " --nodes 1 --nodes 2", ["qc: --nodes stands twice"]),
-    usage("too many branchings", PLAN + " --nodes 1000000",
-          ['qc: N behind --nodes can\'t be "1000000": it is a whole number from 0 to 100000, in digits alone and without a '
+    usage("too many branchings", PLAN + " --nodes 10000000",
+          ['qc: N behind --nodes can\'t be "10000000": it is a whole number from 0 to 1000000, in digits alone and without a '
            'leading 0']),
     usage("branchings with a comma", PLAN + " --nodes 20,000",
-          ['qc: N behind --nodes can\'t be "20,000": it is a whole number from 0 to 100000, in digits alone and without a '
+          ['qc: N behind --nodes can\'t be "20,000": it is a whole number from 0 to 1000000, in digits alone and without a '
            'leading 0']),
     usage("one file for plan and tree", "plan ship.toml stow.csv new.csv new.csv",
           ['qc: PLAN and TREE are the same file "new.csv": plan needs four different names']),

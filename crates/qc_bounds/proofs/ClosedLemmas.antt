@@ -1,10 +1,10 @@
 -- Which leaf closes a node, and that nothing else does.
 use Rattle.std.proofs.Common.{◌≡◌, ℕ, ◌<◌, ◌≤◌, nat_le, ◌&&◌, true, not, ◌⊎◌, inl, inr, List, [], ◌∷◌, None, Some, sym, ap, subst, ◌∙◌, arith}
-use Rattle.std.proofs.lemmas.Bool.{and_from, cond-true, false≢true, le-leb}
+use Rattle.std.proofs.lemmas.Bool.{and_from, cond-true, false≢true, le-leb, and_parts}
 use Rattle.qc_num.specs.Bounds.{IsAtMost}
 use Rattle.qc_num.specs.declared.bound.Bound.{Bound}
 use Rattle.qc_num.specs.declared.bound.Bound.TheVariants.{Least, Never}
-use Rattle.qc_close.specs.Model.{Decision, Assign, Order, MOST_START, IsClosable, IsWorkBound, IsWorkLate, out_of_reach, no_starts, complete, ends_late, work_late, InstanceView, is_out_of_reach, work_over, HasStarts, IsComplete, IsInReach, IsNodeEnd, last_end}
+use Rattle.qc_close.specs.Model.{Decision, Assign, Order, MOST_START, IsClosable, IsWorkBound, IsWorkLate, out_of_reach, no_starts, complete, ends_late, work_late, InstanceView, is_out_of_reach, work_over, HasStarts, IsComplete, IsInReach, IsNodeEnd, last_end, is_in_reach, reaches}
 use Rattle.qc_model.proofs.Bounded.{last_end_le}
 use Rattle.qc_model.proofs.NodeLemmas.{ends_by}
 use Rattle.qc_starts.specs.Seen.{IsWhy}
@@ -26,7 +26,7 @@ one_end inst ds end other a b = omega (arith, end_le inst ds end other a b, end_
 
 pub never_out_of_reach : (inst : InstanceView) (ds : List Decision) → IsInReach inst ds → is_out_of_reach inst ds ≡ true → ⊥
 never_out_of_reach inst [] reach out = false≢true out
-never_out_of_reach inst (Assign j k ∷ ds) reach out = false≢true (sym (ap not reach.0) ∙ out)
+never_out_of_reach inst (Assign j k ∷ ds) reach out = false≢true (sym (ap not (and_parts (reaches inst j k) (is_in_reach inst ds) reach).0) ∙ out)
 never_out_of_reach inst (Order i j ∷ ds) reach out = false≢true out
 
 -- what is late is late with a later end

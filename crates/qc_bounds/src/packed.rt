@@ -1,7 +1,6 @@
 //! When a node ends at the soonest, as packed tasks show it.
 
-ghost use Rattle.std.specs.Prelude.{◌≡◌, ◌<◌, ◌≤◌, All, IfSome, IsSome, length, map, min};
-ghost use Rattle.std.specs.Option.{option_map_or};
+ghost use Rattle.std.specs.Prelude.{◌≡◌, ◌<◌, ◌≤◌, All, IfSome, IsSome, length, map};
 ghost use Rattle.qc_close.specs.Crews.{IsCrewOf};
 ghost use Rattle.qc_close.specs.Model.{MOST_START, early, packed_end, least};
 ghost use Rattle.qc_bounds.specs.Packed.{IsPackedFrom, IsSoon, early_at};
@@ -9,16 +8,8 @@ ghost use Rattle.qc_bounds.specs.Packed.{IsPackedFrom, IsSoon, early_at};
 use crate::spread::spread;
 use qc_close::Crew;
 use qc_model::{Instance, Turn, bays_up};
-use qc_num::Tick;
+use qc_num::{Tick, lesser};
 use qc_starts::Starts;
-
-/// The lesser of a tick and those before it, if there were any.
-fn sooner(least: Option<Tick>, tick: Tick) -> Tick
-    ensures least { result ≡ option_map_or (λ other. min other tick) least tick }
-    ensures bound { result ≤ tick }
-{
-    least.map_or(tick, |other| other.min(tick))
-}
 
 /// From when a task can start: where cranes go one way when its crane can be at it, which is cheap to tell,
 /// and where they go as they like its earliest start.
@@ -43,7 +34,7 @@ fn least_early(node: &Starts, tasks: &[u16]) -> Tick
 {
     let mut least: Option<Tick> = None;
     for task in tasks {
-        least = Some(sooner(least, early(node, *task)));
+        least = Some(lesser(least, early(node, *task)));
     }
     least.unwrap_or(0)
 }

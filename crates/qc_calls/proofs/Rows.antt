@@ -22,6 +22,7 @@ use Rattle.qc_model.specs.Nodes.{IsSettled, assigned, forced, free, head, reache
 use Rattle.qc_model.specs.OneWay.{mirror}
 use Rattle.qc_model.specs.Ticks.{task_distance, travel_between}
 use Rattle.qc_tasks.specs.Rings.{has_ring, leads}
+use Rattle.qc_model.proofs.NodeLemmas.{settled_cases}
 
 -- a crane that works from one bay to another
 abbrev reaching : List ℕ → ℕ → ℕ → ℕ → ℕ → Crane
@@ -140,7 +141,7 @@ alone = Assign 1 0 ∷ Assign 0 0 ∷ []
 -- where neither task is forced to start after the other, their order is open
 open_pair : (inst : InstanceView) (ds : List Decision) (i j : ℕ) → forced inst ds i j ≡ None → forced inst ds j i ≡ None
     → ¬ IsSettled inst ds i j
-open_pair inst ds i j there back is = elim is [
+open_pair inst ds i j there back is = elim (settled_cases inst ds i j is) [
   | inl some ↦ false≢true (sym (ap is_some there) ∙ some)
   | inr some ↦ false≢true (sym (ap is_some back) ∙ some)
 ]
@@ -150,7 +151,7 @@ open_pair inst ds i j there back is = elim is [
 forced-by-two-cranes : (forced near (Assign 0 0 ∷ []) 1 0 ≡ None) × (forced near straight 1 0 ≡ Some 21)
     × (forced near straight 0 1 ≡ None) × IsSettled near straight 0 1 × IsSettled near straight 1 0
     × (head near straight 0 ≡ 0) × (head near straight 1 ≡ 1)
-forced-by-two-cranes = (refl, refl, refl, inr refl, inl refl, refl, refl)
+forced-by-two-cranes = (refl, refl, refl, refl, refl, refl, refl)
 
 -- The newest decision comes back first, and what it forced is gone.
 undone-in-turn : (assigned straight 1 ≡ Some 1) × (assigned (Assign 0 0 ∷ []) 1 ≡ None)
@@ -160,7 +161,7 @@ undone-in-turn = (refl, refl, refl, refl, open_pair near (Assign 0 0 ∷ []) 0 1
 
 -- The first crane climbs from bay 1 to 2: 20 ticks of the task and 1 of travel.
 forced-by-one-crane : (forced near alone 0 1 ≡ Some 21) × (forced near alone 1 0 ≡ None) × IsSettled near alone 1 0
-forced-by-one-crane = (refl, refl, inr refl)
+forced-by-one-crane = (refl, refl, refl)
 
 -- The outer of three cranes keep 4 bays and have 3: 10 ticks of the task and 1.
 forced-by-outer-cranes : (task_distance outer 0 0 1 2 ≡ 1) × (forced outer (Assign 1 2 ∷ Assign 0 0 ∷ []) 1 0 ≡ Some 11)
@@ -212,7 +213,7 @@ below-every-reach = (refl, refl, refl)
 order-forces-the-first-length : ¬ IsSettled split [] 0 1 × (forced split (Order 1 0 ∷ []) 1 0 ≡ Some 30)
     × (forced split (Order 1 0 ∷ []) 0 1 ≡ None) × IsSettled split (Order 1 0 ∷ []) 0 1 × (forced split [] 1 0 ≡ None)
     × (forced split (Order 0 1 ∷ []) 0 1 ≡ Some 20) × (forced split (Order 0 1 ∷ []) 1 0 ≡ None)
-order-forces-the-first-length = (open_pair split [] 0 1 refl refl, refl, refl, inr refl, refl, refl, refl)
+order-forces-the-first-length = (open_pair split [] 0 1 refl refl, refl, refl, refl, refl, refl, refl)
 
 -- One crane for both climbs 3 bays after 20 ticks; the order alone asks for 20.
 the-greater-is-forced : (forced split (Assign 0 0 ∷ Order 0 1 ∷ []) 0 1 ≡ Some 20)
@@ -223,7 +224,7 @@ the-greater-is-forced = (refl, refl)
 -- are missing after 20 ticks.
 settled-by-its-cranes : ¬ IsSettled split (Assign 0 0 ∷ []) 0 1 × IsSettled split alone 0 1
     × (forced split alone 0 1 ≡ Some 23) × (forced split crossed 0 1 ≡ Some 25) × IsSettled split crossed 1 0
-settled-by-its-cranes = (open_pair split (Assign 0 0 ∷ []) 0 1 refl refl, inl refl, refl, refl, inr refl)
+settled-by-its-cranes = (open_pair split (Assign 0 0 ∷ []) 0 1 refl refl, refl, refl, refl, refl)
 
 -- The higher crane has the higher task, 3 bays away, which are enough; the order asks for 30 ticks.
 left-open-by-its-cranes : ¬ IsSettled split straight 0 1 × (forced split (Order 1 0 ∷ straight) 1 0 ≡ Some 30)

@@ -1,17 +1,10 @@
 -- The greatest and the least sums of so many numbers: of more of them, and of greater ones.
-use Rattle.std.proofs.Common.{[], ◌≡◌, ℕ, zero, suc, ◌+◌, ◌-◌, ◌*◌, ◌<◌, ◌≤◌, max, inl, inr, List, ◌∷◌, ◌++◌, length, get_or, map, take, refl, ap, sym, ◌∙◌, arith, sum}
+use Rattle.std.proofs.Common.{[], ◌≡◌, ℕ, zero, suc, ◌+◌, ◌-◌, ◌*◌, ◌<◌, ◌≤◌, max, inl, inr, List, ◌∷◌, length, get_or, map, drop, refl, ap, sym, ◌∙◌, arith, sum}
 use Rattle.std.proofs.Math.Nat.{add-mul, suc-mul, zero-mul}
 use Rattle.std.proofs.lemmas.Bool.{cases_lt}
-use Rattle.std.proofs.lemmas.List.{length-map, length-take-le, map_more}
+use Rattle.std.proofs.lemmas.List.{drop_more, length-drop, length-map}
 use Rattle.std.proofs.lemmas.List.Sums.{sum_by-cons}
 use Rattle.qc_model.specs.Closed.{fewest, most}
-
--- one number more, behind the others
-pub most_more : (n x : ℕ) (xs : List ℕ) → most (suc n) (xs ++ x ∷ []) ≡ max (x + most n xs) (most (suc n) xs)
-most_more zero x [] = refl
-most_more (suc n) x [] = omega arith
-most_more zero x (y ∷ ys) = omega (arith, most_more zero x ys)
-most_more (suc n) x (y ∷ ys) = omega (arith, most_more n x ys, most_more (suc n) x ys)
 
 -- all of them, where there are no more
 pub most_all : (n : ℕ) (xs : List ℕ) → length xs ≤ n → most n xs ≡ sum xs
@@ -25,6 +18,13 @@ most_rises : (n : ℕ) (xs : List ℕ) → most n xs ≤ most (suc n) xs
 most_rises zero xs = omega arith
 most_rises (suc n) [] = omega arith
 most_rises (suc n) (x ∷ xs) = omega (arith, most_rises n xs, most_rises (suc n) xs)
+
+-- each number more adds no more than the one before it
+most_falls : (n : ℕ) (xs : List ℕ) → most n xs + most (suc (suc n)) xs ≤ 2 * most (suc n) xs
+most_falls zero [] = omega arith
+most_falls zero (x ∷ xs) = omega (arith, most_falls zero xs)
+most_falls (suc n) [] = omega arith
+most_falls (suc n) (x ∷ xs) = omega (arith, most_falls n xs, most_falls (suc n) xs)
 
 -- more of them come to no less
 pub most_by : (n k : ℕ) (xs : List ℕ) → most n xs ≤ most (k + n) xs
@@ -51,16 +51,18 @@ most_le f g (suc n) (x ∷ xs) le = omega (arith, le x, most_le f g n xs le, mos
 
 -- ---- the sums with one number more
 
--- at the index of the number, where it is counted
-module _ (sums more : List ℕ) (count c : ℕ) where
-  pub some_at : (x : ℕ) → count ≡ c
-      → ((n : ℕ) → n ≤ count → get_or more (n + 1) 0 ≡ max (x + get_or sums n 0) (get_or sums (n + 1) 0))
-      → (n : ℕ) → n ≤ c → get_or more (n + 1) 0 ≡ max (x + get_or sums n 0) (get_or sums (n + 1) 0)
-  some_at x is some n low = some n (omega (arith, low, is))
-
-  pub others_at : count ≡ c → ((n : ℕ) → count + 1 < n → get_or more n 0 ≡ get_or sums n 0)
-      → (n : ℕ) → c + 1 < n → get_or more n 0 ≡ get_or sums n 0
-  others_at is others n above = others n (omega (arith, above, is))
+module _ (sums : List ℕ) (xs : List ℕ) (c : ℕ) (many : length xs ≡ c) (are : (n : ℕ) → n ≤ c → get_or sums n 0 ≡ most n xs)
+    (rest : (n : ℕ) → c < n → get_or sums n 0 ≡ 0) where
+  falls_of : (n : ℕ) → n < c → get_or sums n 0 + get_or sums (n + 2) 0 ≤ 2 * get_or sums (n + 1) 0
+  falls_of n low =
+      let one : n + 1 ≡ suc n = omega arith in
+      let two : n + 2 ≡ suc (suc n) = omega arith in
+      let at = are n (omega (arith, low)) in
+      let next = are (n + 1) (omega (arith, low)) ∙ ap (λ i. most i xs) one in
+      elim (cases_lt (n + 1) c) [
+        | inl less ↦ omega (arith, most_falls n xs, at, next, are (n + 2) (omega (arith, less)) ∙ ap (λ i. most i xs) two)
+        | inr last ↦ omega (arith, most_rises n xs, at, next, rest (n + 2) (omega (arith, last)))
+      ]
 
 module _ (sums more : List ℕ) (c x : ℕ) (none : get_or more 0 0 ≡ get_or sums 0 0)
     (some : (n : ℕ) → n ≤ c → get_or more (n + 1) 0 ≡ max (x + get_or sums n 0) (get_or sums (n + 1) 0))
@@ -82,30 +84,47 @@ module _ (sums more : List ℕ) (c x : ℕ) (none : get_or more 0 0 ≡ get_or s
   rest_more rest n above = others n above ∙ rest n (omega (arith, above))
 
   more_of : (xs : List ℕ) → length xs ≡ c → ((n : ℕ) → n ≤ c → get_or sums n 0 ≡ most n xs)
-      → ((n : ℕ) → c < n → get_or sums n 0 ≡ 0) → (n : ℕ) → n ≤ c + 1 → get_or more n 0 ≡ most n (xs ++ x ∷ [])
+      → ((n : ℕ) → c < n → get_or sums n 0 ≡ 0) → (n : ℕ) → n ≤ c + 1 → get_or more n 0 ≡ most n (x ∷ xs)
   more_of xs many before rest zero low = omega (arith, none, before 0 (omega arith))
   more_of xs many before rest (suc n) low = elim (cases_lt n c) [
     | inl less ↦
-        omega (arith, at_next n (omega arith), before n (omega arith), before (suc n) (omega (arith, less)), most_more n x xs)
+        omega (arith, at_next n (omega arith), before n (omega arith), before (suc n) (omega (arith, less)))
     | inr all ↦
         omega (
           arith,
           at_next n (omega arith),
           before n (omega arith),
           rest (suc n) (omega (arith, all)),
-          most_more n x xs,
           most_all n xs (omega (arith, many, all)),
           most_all (suc n) xs (omega (arith, many, all)),
         )
   ]
 
-  pub sums_more : {X : Type 0} (f : X → ℕ) (xs : List X) (d : X) → c < length xs → x ≡ f (get_or xs c d)
-      → ((n : ℕ) → n ≤ c → get_or sums n 0 ≡ most n (map f (take c xs))) → ((n : ℕ) → c < n → get_or sums n 0 ≡ 0)
-      → (n : ℕ) → n ≤ c + 1 → get_or more n 0 ≡ most n (map f (take (c + 1) xs))
-  sums_more f xs d low is before rest n few =
-      more_of (map f (take c xs)) (length-map (take c xs) f ∙ length-take-le c xs (omega (arith, low))) before rest n few
-      ∙ ap (λ (y : ℕ). most n (map f (take c xs) ++ y ∷ [])) is
-      ∙ ap (most n) (sym (map_more f xs c d low))
+-- of the last c numbers
+module _ {X : Type 0} (f : X → ℕ) (xs : List X) where
+  abbrev pub AreLast : ℕ → List ℕ → Type 0
+  AreLast c sums = (n : ℕ) → n ≤ c → get_or sums n 0 ≡ most n (map f (drop (length xs - c) xs))
+
+  last_many : (c : ℕ) → c ≤ length xs → length (map f (drop (length xs - c) xs)) ≡ c
+  last_many c low = length-map (drop (length xs - c) xs) f ∙ length-drop (length xs - c) xs ∙ omega (arith, low)
+
+  pub last_falls : (c : ℕ) (sums : List ℕ) → c ≤ length xs → AreLast c sums → ((n : ℕ) → c < n → get_or sums n 0 ≡ 0)
+      → (n : ℕ) → n < c → get_or sums n 0 + get_or sums (n + 2) 0 ≤ 2 * get_or sums (n + 1) 0
+  last_falls c sums low are rest = falls_of sums (map f (drop (length xs - c) xs)) c (last_many c low) are rest
+
+  pub last_more : (sums more : List ℕ) (c x : ℕ) → get_or more 0 0 ≡ get_or sums 0 0
+      → ((n : ℕ) → n ≤ c → get_or more (n + 1) 0 ≡ max (x + get_or sums n 0) (get_or sums (n + 1) 0))
+      → ((n : ℕ) → c + 1 < n → get_or more n 0 ≡ get_or sums n 0)
+      → (d : X) → c < length xs → x ≡ f (get_or xs (length xs - 1 - c) d) → AreLast c sums
+      → ((n : ℕ) → c < n → get_or sums n 0 ≡ 0) → AreLast (c + 1) more
+  last_more sums more c x none some others d low is before rest n few =
+      let at : length xs - (c + 1) ≡ length xs - 1 - c = omega arith in
+      let next : length xs - 1 - c + 1 ≡ length xs - c = omega (arith, low) in
+      more_of sums more c x none some others (map f (drop (length xs - c) xs)) (last_many c (omega (arith, low))) before rest n few
+      ∙ ap (λ (y : ℕ). most n (y ∷ map f (drop (length xs - c) xs))) is
+      ∙ ap (λ (i : ℕ). most n (f (get_or xs (length xs - 1 - c) d) ∷ map f (drop i xs))) (sym next)
+      ∙ ap (λ (ys : List X). most n (map f ys)) (sym (drop_more xs (length xs - 1 - c) d (omega (arith, low))))
+      ∙ ap (λ (i : ℕ). most n (map f (drop i xs))) (sym at)
 
 -- the least sum is what the greatest of the others leave of all
 module _ {X : Type 0} (f : X → ℕ) (xs : List X) (n k : ℕ) (sums : List ℕ)

@@ -4,13 +4,13 @@ pub use Rattle.qc_model.specs.Barred.{all_done, barred_frame, barring, both_done
 pub use Rattle.qc_model.specs.Bays.{at_least_zero, bays_between, bays_up}
 pub use Rattle.qc_model.specs.Closed.{IsClosedBound, Try, along, are_multiples, bays_to, fewest, first, grain, has_room, is_closed, is_served, is_short, is_short_along, is_short_before, last_before, left_at, left_bays, leg, legs, lists_to, load, most, numbers, room, suffices, try_of, try_with, work_at}
 pub use Rattle.qc_model.specs.Closing.{IsClosable, IsWorkBound, IsWorkLate, complete, ends_late, no_starts, out_of_reach, work_late}
-pub use Rattle.qc_model.specs.Early.{are_met, early, early_by, is_in_reach, least_starts, let_by, put_off, starts_after}
+pub use Rattle.qc_model.specs.Early.{are_met, early, early_by, least_starts, let_by, put_off, starts_after}
 pub use Rattle.qc_model.specs.Frames.{GoesBy, frame, frame_of, own, turn_bays, turn_high}
-pub use Rattle.qc_model.specs.Instance.{InstanceView, IsApart, IsFrom, IsOnRail, Valid, bay_of, crane, no_crane, no_task, pair_of, release_of, task, ticks_of}
+pub use Rattle.qc_model.specs.Instance.{InstanceView, IsApart, IsFrom, IsOnRail, Valid, bay_of, crane, is_apart, no_crane, no_task, pair_of, release_of, task, ticks_of}
 pub use Rattle.qc_model.specs.Judge.{Goes, IsDirection, IsJudgeable}
 pub use Rattle.qc_model.specs.Leaves.{Leaf, are_tasks, chain, chain_end, chain_ticks, is_out_of_reach, is_ring, leaf_value, packed, packed_end, reach, ring, work, work_over}
 pub use Rattle.qc_model.specs.Motion.{bay_ahead, bay_behind, scaled}
-pub use Rattle.qc_model.specs.Nodes.{Agrees, AreLeast, Clash, Conflicts, Fits, HasStarts, IsComplete, IsInReach, IsNodeEnd, IsSettled, Meets, assigned, berth_wait, crane_ticks, forced, free, greatest, head, head_by, is_before, is_ordered, is_sooner, least, order_pairs, order_pairs_by, pair_ticks, reaches, schedule_with, separation, slot_with, sooner_ticks}
+pub use Rattle.qc_model.specs.Nodes.{Agrees, AreLeast, Clash, Conflicts, Fits, HasStarts, IsComplete, IsInReach, IsNodeEnd, IsSettled, Meets, assigned, berth_wait, crane_ticks, forced, free, greatest, head, head_by, is_before, is_in_reach, is_ordered, is_settled, is_sooner, least, order_pairs, order_pairs_by, pair_ticks, reaches, schedule_with, separation, slot_with, sooner_ticks}
 pub use Rattle.qc_model.specs.Numbers.{most_branchings, most_cranes, most_distance, most_ready, most_start, most_tasks, most_work}
 pub use Rattle.qc_model.specs.OneWay.{GoesOneWay, GoesUp, IsAllowed, IsAllowedBy, flipped, mirror, mirror_schedule, mirror_slot, mirror_task}
 pub use Rattle.qc_model.specs.Packs.{IsPackBound, all_clash, all_differ, clash, is_doable, is_packed, may_lie, pack, places, span, stretches}

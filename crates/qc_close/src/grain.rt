@@ -1,26 +1,11 @@
 //! The greatest number of which all ticks of an instance are multiples.
 
 ghost use Rattle.std.specs.Prelude.{◌≡◌, length, slice_index_or};
-ghost use Rattle.std.specs.Int.{IsGcd};
 ghost use Rattle.qc_close.specs.Model.{grain, no_crane, no_task};
 ghost use Rattle.qc_close.specs.Grains.{IsGrainOf};
 
 use qc_model::{Crane, Instance, Task};
-use qc_num::Tick;
-
-/// The greatest common divisor of two numbers.
-fn gcd(one: Tick, other: Tick) -> Tick
-    ensures { IsGcd one other result }
-{
-    let mut x = one;
-    let mut y = other;
-    while y != 0 {
-        let rest = x % y;
-        x = y;
-        y = rest;
-    }
-    x
-}
+use qc_num::{Tick, gcd};
 
 /// The same of a number and the ticks of tasks.
 fn with_tasks(start: Tick, tasks: &[Task]) -> Tick

@@ -1,6 +1,6 @@
 //! Tasks of which no two can run together.
 
-ghost use Rattle.std.specs.Prelude.{◌≡◌, ◌==◌, ◌+◌, ◌*◌, ◌<◌, ◌≤◌, ℕ, ℤ, drop, All, IfSome, MatchBool, MatchOption, length, slice_index, true, false, int_le, min, nat_le};
+ghost use Rattle.std.specs.Prelude.{◌≡◌, ◌==◌, ◌+◌, ◌*◌, ◌<◌, ◌≤◌, ℕ, ℤ, drop, All, IfSome, MatchBool, MatchOption, length, slice_index, true, false, int_le, nat_le};
 ghost use Rattle.std.specs.List.{list_all, list_any};
 ghost use Rattle.std.specs.Option.{option_map_or};
 ghost use Rattle.qc_close.specs.Model.{MOST_DISTANCE, MOST_TASKS, MOST_WORK, crane_numbers, ticks_over, reaches, place, all_clash, all_differ, is_doable, is_packed, pack};
@@ -9,7 +9,7 @@ ghost use Rattle.qc_close.specs.Bands.{AreBelow, AreStacked, IsBandOf, IsFinding
 use crate::Crew;
 use qc_dist::in_reach;
 use qc_model::{bays_up, travel_over};
-use qc_num::{Bay, Tick};
+use qc_num::{Bay, Tick, lesser};
 
 /// Places along the rail from one to another.
 #[derive(Clone, Copy)]
@@ -79,13 +79,6 @@ fn is_found(before: Option<Tick>, number: Tick) -> bool
         None => false,
         Some(least) => least <= number,
     }
-}
-
-/// The lesser of a number and that before it, if there was one.
-fn lesser(before: Option<Tick>, number: Tick) -> Tick
-    ensures { result ≡ option_map_or (λ other. min other number) before number }
-{
-    before.map_or(number, |other| other.min(number))
 }
 
 impl Crew {

@@ -10,11 +10,14 @@ use qc_num::{Bay, Tick};
 /// The greatest sums of none, of one, two and more of some numbers, up to all of them.
 pub(crate) type Sums = [Tick; 9];
 
-/// Takes one number more into the sums of so many.
+/// Takes one number more into the sums of so many, from that of all of them down to the first that it
+/// doesn't raise: each number more adds no more than the one before it, so it raises none of fewer.
 fn add_number(sums: &mut Sums, count: usize, number: Tick)
     requires count { count < 8 }
     requires number { number < 2 ^ 56 }
     requires sums { (n : ℕ) → n < 9 → slice_index sums.old n < 2 ^ 60 }
+    requires falling { (n : ℕ) → n < count
+        → slice_index sums.old n + slice_index sums.old (n + 2) ≤ 2 * slice_index sums.old (n + 1) }
     ensures none { slice_index sums.new 0 ≡ slice_index sums.old 0 }
     ensures some { (n : ℕ) → n ≤ count
         → slice_index sums.new (n + 1) ≡ max (number + slice_index sums.old n) (slice_index sums.old (n + 1)) }
@@ -22,7 +25,11 @@ fn add_number(sums: &mut Sums, count: usize, number: Tick)
 {
     for done in 0..count + 1 {
         let n = count - done;
-        sums[n + 1] = sums[n + 1].max(number + sums[n]);
+        let sum = number + sums[n];
+        if sum <= sums[n + 1] {
+            return;
+        }
+        sums[n + 1] = sum;
     }
 }
 
@@ -62,11 +69,11 @@ pub(crate) fn most_rooms(
     ensures { (n : ℕ) → n ≤ length frames.now → slice_index sums.new n
         ≡ most n (map (λ f. tick - f.gone - travel * bays_to way f bay) frames.now) }
 {
-    let mut count = 0;
-    for frame in frames {
+    let count = frames.len();
+    for done in 0..count {
+        let frame = &frames[count - 1 - done];
         let ticks = room(travel, tick, frame, bays_to(way, frame, bay));
-        add_number(sums, count, ticks);
-        count += 1;
+        add_number(sums, done, ticks);
     }
 }
 
@@ -79,11 +86,11 @@ fn most_legs(sums: &mut Sums, frames: &[Frame], way: Direction, from: u16, to: u
         ≡ most n (map (λ f. bays_to way f to - bays_to way f from) frames.now) }
     ensures small { (n : ℕ) → n ≤ 8 → slice_index sums.new n ≤ 2 ^ 21 }
 {
-    let mut count = 0;
-    for frame in frames {
+    let count = frames.len();
+    for done in 0..count {
+        let frame = &frames[count - 1 - done];
         let bays = bays_to(way, frame, to).saturating_sub(bays_to(way, frame, from));
-        add_number(sums, count, bays);
-        count += 1;
+        add_number(sums, done, bays);
     }
 }
 

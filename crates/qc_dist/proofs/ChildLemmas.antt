@@ -9,7 +9,7 @@ use Rattle.qc_model.specs.declared.decision.Decision.{Decision}
 use Rattle.qc_model.specs.declared.decision.Decision.TheVariants.{Assign, Order}
 use Rattle.qc_model.specs.Instance.{InstanceView}
 use Rattle.qc_model.specs.Work.{crane_numbers}
-use Rattle.qc_model.proofs.NodeLemmas.{conflict_turned}
+use Rattle.qc_model.proofs.NodeLemmas.{conflict_turned, settled_turned}
 
 module _ (inst : InstanceView) where
   pub cranes_count : length (crane_numbers inst) ≡ length inst.cranes
@@ -41,7 +41,7 @@ module _ (inst : InstanceView) where
   pub turned_first : (ds : List Decision) (i j : ℕ) → i < j → IsOpen inst ds (Order i j)
       → IsOpen inst ds (Order j i) × (later inst ds (Order i j) ≡ (Order j i ∷ ds) ∷ later inst ds (Order j i))
   turned_first ds i j up is_open = (
-    (conflict_turned inst ds i j is_open.0, λ settled. is_open.1 (elim settled [ inl s ↦ inr s | inr s ↦ inl s ])),
+    (conflict_turned inst ds i j is_open.0, λ settled. is_open.1 (settled_turned inst ds j i settled)),
     cond-true (nat_lt i j) _ _ (lt-ltb i j up)
         ∙ ap (λ (rest : List (List Decision)). (Order j i ∷ ds) ∷ rest)
         (sym (cond-false (nat_lt j i) ((Order i j ∷ ds) ∷ []) [] (le-ltb j i (omega arith)))),

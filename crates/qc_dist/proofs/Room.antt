@@ -13,7 +13,7 @@ use Rattle.qc_model.specs.declared.turn.Turn.{Turn}
 use Rattle.qc_model.specs.declared.turn.Turn.TheVariants.{OneWay, Free}
 use Rattle.qc_model.specs.Instance.{InstanceView, Valid, pair_of}
 use Rattle.qc_model.specs.Nodes.{Conflicts, Fits, assigned, is_ordered, order_pairs, order_pairs_by}
-use Rattle.qc_model.proofs.NodeLemmas.{conflict_differs, conflict_inside, one_way_apart}
+use Rattle.qc_model.proofs.NodeLemmas.{conflict_differs, conflict_inside, one_way_apart, before_found}
 use Rattle.qc_dist.proofs.Sums.{count_less}
 use Rattle.qc_dist.proofs.Assigned.{ordered_here}
 
@@ -113,7 +113,10 @@ in_orders inst valid ds i j conflict = by_turn inst.turn refl
   where
     by_turn : (turn : Turn) → inst.turn ≡ turn
         → Contains (orders_by turn inst) (pair_of i j) ⊎ Contains (orders_by turn inst) (pair_of j i)
-    by_turn OneWay is = one_way_apart inst is ds i j conflict
+    by_turn OneWay is = elim (one_way_apart inst is ds i j conflict) [
+      | inl apart ↦ inl (before_found i j inst.apart apart)
+      | inr apart ↦ inr (before_found j i inst.apart apart)
+    ]
     by_turn Free is =
         let inside = conflict_inside inst valid ds i j conflict in
         in_orders_free (length inst.tasks) i j inside.0 inside.1 (conflict_differs inst valid ds i j conflict)

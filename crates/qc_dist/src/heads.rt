@@ -1,14 +1,13 @@
 //! When tasks can start at the least, with every crane: computed once for an instance.
 
-ghost use Rattle.std.specs.Prelude.{◌≡◌, ◌+◌, ◌<◌, ◌≤◌, None, length, min, IfOk};
-ghost use Rattle.std.specs.Option.{option_map_or};
+ghost use Rattle.std.specs.Prelude.{◌≡◌, ◌+◌, ◌<◌, ◌≤◌, None, length, IfOk};
 ghost use Rattle.qc_model.specs.declared.limits.TheConstants.{MOST_DISTANCE, MOST_READY};
 ghost use Rattle.qc_model.specs.Nodes.{head_by};
 ghost use Rattle.qc_dist.specs.Heads.{IsFreeRow, IsHeads, IsHeadTable};
 
 use crate::travel::{head, in_reach};
 use qc_model::{Instance, MOST_CRANES};
-use qc_num::{OutOfMemory, Tick};
+use qc_num::{OutOfMemory, Tick, lesser};
 use std::alloc::Global;
 
 /// When a task can start at the least.
@@ -20,14 +19,6 @@ pub(crate) struct Heads {
     pub(crate) least: Tick,
 }
 
-/// The lesser of a tick and those before it, if there were any.
-fn sooner(least: Option<Tick>, tick: Tick) -> Tick
-    ensures least { result ≡ option_map_or (λ other. min other tick) least tick }
-    ensures bound { result ≤ tick }
-{
-    least.map_or(tick, |other| other.min(tick))
-}
-
 /// When task `j` can start at the least if its crane is open.
 fn least_head(inst: &Instance, j: u16) -> Tick
     requires { j < length inst.now.tasks }
@@ -37,7 +28,7 @@ fn least_head(inst: &Instance, j: u16) -> Tick
     let mut least: Option<Tick> = None;
     for k in 0..inst.crane_count() {
         if in_reach(inst, j, k) {
-            least = Some(sooner(least, head(inst, j, k)));
+            least = Some(lesser(least, head(inst, j, k)));
         }
     }
     least.unwrap_or(0)

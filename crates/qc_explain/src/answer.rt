@@ -38,7 +38,7 @@ pub fn say_infeasible(page: &mut Page, inst: &Instance, turn: Turn) {
 pub fn say_spent(page: &mut Page) {
     page.line()
         .text(
-            "note: no plan was found yet: --nodes N allows up to 100000 branchings, and --from OWN begins with a plan of yours",
+            "note: no plan was found yet: --nodes N allows up to 1000000 branchings, and --from OWN begins with a plan of yours",
         )
         .end()
 }

@@ -20,7 +20,7 @@ fn why(kind: TreeKind) -> &'static str {
             "it branches on the order of two tasks that can run together by their cranes so far, or names the higher one first"
         }
         TreeKind::Decided => "it branches on what is decided above it",
-        TreeKind::Branchings => "this is a branching behind the 100000th, and a tree has no more",
+        TreeKind::Branchings => "this is a branching behind the 1000000th, and a tree has no more",
         TreeKind::NotForced => "its tasks don't wait for each other as it says",
         TreeKind::NotCycle => "its tasks are no ring, as it says",
         TreeKind::NotClash =>

@@ -5,7 +5,7 @@ use qc_page::nearest;
 use std::alloc::Global;
 
 /// The names of the commands.
-const NAMES: [&str; 14] = [
+const NAMES: [&str; 15] = [
     "plan",
     "check",
     "tasks",
@@ -20,10 +20,11 @@ const NAMES: [&str; 14] = [
     "report",
     "moves",
     "odds",
+    "rest",
 ];
 
 /// The commands, each with its operands and with its options in brackets.
-const LINES: [&str; 14] = [
+const LINES: [&str; 15] = [
     "plan SHIP STOW PLAN TREE [--nodes N] [--from OWN]",
     "check SHIP STOW PLAN TREE",
     "tasks SHIP STOW",
@@ -38,6 +39,7 @@ const LINES: [&str; 14] = [
     "report SHIP STOW PLAN",
     "moves ARRIVAL DEPARTURE STOW",
     "odds SHIP STOW PLAN PAST [--runs N] [--seed S] [--by T]",
+    "rest SHIP STOW PLAN LOG NEWSHIP NEWSTOW OWN",
 ];
 
 /// The options of `plan` and `free`.
@@ -47,7 +49,7 @@ const SEARCH_OPTIONS: [&str; 2] = ["--nodes", "--from"];
 const ODDS_OPTIONS: [&str; 3] = ["--runs", "--seed", "--by"];
 
 /// The commands that write files, of which no two names may be equal.
-const WRITERS: [&str; 3] = ["plan", "free", "moves"];
+const WRITERS: [&str; 4] = ["plan", "free", "moves", "rest"];
 
 /// A command with its words.
 #[derive(Clone, Copy)]
@@ -123,7 +125,8 @@ impl Form {
     pub(crate) fn told_count(&self) -> &'static str {
         match self.count() {
             3 => "three",
-            _ => "four",
+            4 => "four",
+            _ => "seven",
         }
     }
 

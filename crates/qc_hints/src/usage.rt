@@ -119,7 +119,7 @@ fn limits_of(at: usize) -> (&'static str, u64, u64) {
 /// there.
 fn limits_behind(option: &str) -> Option<(&'static str, u64, u64)> {
     if option == "--nodes" {
-        Some(("N behind --nodes", 0, 100_000))
+        Some(("N behind --nodes", 0, 1_000_000))
     } else if option == "--runs" {
         Some(("N behind --runs", 1, 10_000))
     } else if option == "--seed" {

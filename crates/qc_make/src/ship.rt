@@ -4,6 +4,7 @@ ghost use Rattle.toml.specs.View.{table_view, view};
 ghost use Rattle.qc_ship.specs.ShipFile.{table_of};
 ghost use Rattle.qc_make.specs.MadeTable.{crane_table, crane_values, hatch_values, number_value, ship_table, with_member};
 
+use crate::table::put;
 use qc_model::{MOST_CRANES, MOST_HATCHES};
 use qc_num::{Bytes, OutOfMemory};
 use std::alloc::Global;
@@ -14,16 +15,6 @@ fn number_value(number: u16) -> Value
     ensures { view result ≡ number_value number }
 {
     Value::Integer(i64::from(number))
-}
-
-/// Puts a value at a key.
-fn put(alloc: Global, table: &mut Table, key: &str, value: Value) -> Result<(), OutOfMemory>
-    ensures { OnOk result (table_view table.new
-        ≡ with_member key.now (view value) (table_view table.old)) }
-{
-    let key = String::from_str(alloc, key)?;
-    table.insert(key, value)?;
-    Ok(())
 }
 
 /// Puts a number at a key.

@@ -16,14 +16,14 @@ use Rattle.qc_model.specs.Bays.{bays_between, bays_up}
 use Rattle.qc_model.specs.Clear.{AreClear, AreOpenClear}
 use Rattle.qc_model.specs.Frames.{GoesBy}
 use Rattle.qc_model.specs.Instance.{InstanceView, IsApart, Valid, bay_of, ticks_of}
-use Rattle.qc_model.specs.Nodes.{Agrees, AreLeast, Conflicts, Fits, IsComplete, IsInReach, IsSettled, Meets, assigned, berth_wait, crane_ticks, forced, free, greater, head_by, is_ordered, is_sooner, pair_ticks, reaches, schedule_with, separation, slot_with, sooner_ticks, upward_ticks}
+use Rattle.qc_model.specs.Nodes.{Agrees, AreLeast, Conflicts, Fits, IsComplete, IsInReach, IsSettled, Meets, assigned, berth_wait, crane_ticks, forced, free, greater, head_by, is_in_reach, is_ordered, is_sooner, pair_ticks, reaches, schedule_with, separation, slot_with, sooner_ticks, upward_ticks}
 use Rattle.qc_model.specs.OneWay.{GoesUp}
 use Rattle.qc_model.specs.Rules.{Feasible, IsClear, KeepsApart, KeepsBerth, KeepsMargin, KeepsTravel, crane_of, end_of, ends, last_end, no_slot, slot_distance, start_of, starts}
 use Rattle.qc_model.specs.Ticks.{berth_clear, berth_distance, climb, lead, task_distance, travel_between}
 use Rattle.qc_model.proofs.Bays.{bays}
 use Rattle.qc_model.proofs.Extremes.{le_greatest}
 use Rattle.qc_model.proofs.GoesLemmas.{by_order, distance_swapped}
-use Rattle.qc_model.proofs.NodeLemmas.{IsStep, T_true, conflict_differs, conflict_inside, conflict_turned, greater_keeps, if_some, separation_kept, sooner_before, start_at, true_T}
+use Rattle.qc_model.proofs.NodeLemmas.{IsStep, T_true, conflict_differs, conflict_inside, conflict_turned, greater_keeps, if_some, separation_kept, settled_cases, settled_turned, sooner_before, start_at, true_T}
 use Rattle.qc_model.proofs.TurnLemmas.{by_feasible, two_turns}
 
 -- ---- what the decisions say
@@ -39,11 +39,12 @@ placed : (inst : InstanceView) (ds : List Decision) → Fits inst ds → IsInRea
 placed inst [] fits reach j = tt
 placed inst (Order g k ∷ ds) fits reach j = placed inst ds fits.3 reach j
 placed inst (Assign g k ∷ ds) fits reach j =
+    let parts = and_parts (reaches inst g k) (is_in_reach inst ds) reach in
     cond_both (eqb g j) (Some k) (assigned ds j) (λ o. IfSome o (IsPlaced inst j))
     (λ same.
-    let here : IsPlaced inst g k = record { task = fits.0; crane = fits.1; reach = reach.0 } in
+    let here : IsPlaced inst g k = record { task = fits.0; crane = fits.1; reach = parts.0 } in
     subst (λ (i : ℕ). IsPlaced inst i k) (eqb-true g j same) here)
-    (λ other. placed inst ds fits.3 reach.1 j)
+    (λ other. placed inst ds fits.3 parts.1 j)
 
 -- a schedule is as decided where each assigned task is on its crane, and each pair in its order
 agrees_of : (inst : InstanceView) → Valid inst → (sched : List Slot) (ds : List Decision) → Fits inst ds
@@ -248,7 +249,7 @@ module _ (inst : InstanceView) (ds : List Decision) (begins : List ℕ) (sched :
 
   apart_done : ((i j : ℕ) → IsApart inst i j → IsSettled inst ds i j)
       → (i j : ℕ) → i < length inst.tasks → j < length inst.tasks → KeepsApart inst sched i j
-  apart_done settled i j low high a = elim (settled i j a) [
+  apart_done settled i j low high a = elim (settled_cases inst ds i j (settled i j a)) [
     | inl some ↦ inl (gone i j (forced inst ds i j) some (forced_ticks inst ds i j) (forced_done i j low high))
     | inr some ↦ inr (gone j i (forced inst ds j i) some (forced_ticks inst ds j i) (forced_done j i high low))
   ]
@@ -376,7 +377,7 @@ module _ (inst : InstanceView) (ds : List Decision) (begins : List ℕ) (sched :
           turned = separation_turned inst j (crane_of sched j) i (crane_of sched i)
 
           other : ¬ IsSettled inst ds j i
-          other s = elim s [ inl h ↦ unsettled (inr h) | inr h ↦ unsettled (inl h) ]
+          other s = unsettled (settled_turned inst ds j i s)
 
       clear_done : (i j : ℕ) → Conflicts inst ds i j → IsSeparate i j
       clear_done i j c = elim (cases_Bool (is_some (forced inst ds i j))) [
@@ -385,7 +386,7 @@ module _ (inst : InstanceView) (ds : List Decision) (begins : List ℕ) (sched :
           | inl some ↦
               let turned = separation_turned inst j (crane_of sched j) i (crane_of sched i) in
               inr (omega (arith, turned, past_done j i inside.1 inside.0 (forced_sooner inst ds as_free j i some)))
-          | inr neither ↦ open_done i j c (λ s. elim s [
+          | inr neither ↦ open_done i j c (λ s. elim (settled_cases inst ds i j s) [
             | inl h ↦ false≢true (sym none ∙ h)
             | inr h ↦ false≢true (sym neither ∙ h)
           ])

@@ -14,7 +14,7 @@ use Rattle.qc_model.specs.Instance.{InstanceView, Valid, ticks_of}
 use Rattle.qc_model.specs.Leaves.{Leaf, are_tasks, chain, chain_end, chain_ticks, is_out_of_reach, is_ring, leaf_value, packed, packed_end, reach, ring, work, work_over}
 use Rattle.qc_model.specs.Assignments.{cranes_of}
 use Rattle.qc_model.specs.Closed.{is_closed}
-use Rattle.qc_model.specs.Nodes.{Agrees, Fits, Meets, forced, head, reaches}
+use Rattle.qc_model.specs.Nodes.{Agrees, Fits, Meets, forced, head, reaches, is_in_reach}
 use Rattle.qc_model.specs.Frames.{GoesBy}
 use Rattle.qc_model.specs.Rules.{Feasible, ends, last_end, starts}
 use Rattle.qc_model.proofs.CompleteNodes.{forced_ticks}
@@ -119,7 +119,7 @@ in_reach inst [] sched fits f a t = false≢true t
 in_reach inst (Order i j ∷ ds) sched fits f a t = false≢true t
 in_reach inst (Assign j k ∷ ds) sched fits f a t =
     let r = in_reach_of inst sched f (Assign j k ∷ ds) fits a in
-    false≢true (sym (not-true (reaches inst j k) t) ∙ r.0)
+    false≢true (sym (not-true (reaches inst j k) t) ∙ (and_parts (reaches inst j k) (is_in_reach inst ds) r).0)
 
 module _ (inst : InstanceView) (ds : List Decision) (sched : List Slot) (v : Valid inst)
     (fits : Fits inst ds) (g : GoesBy inst.turn inst sched) (a : Agrees inst ds sched)

@@ -1,6 +1,6 @@
 -- The least starts of a node: its heads, put off as often as there are tasks. These meet it where they are put off no more;
 -- and the least that meet it come out, since with each round one task more is at its least start.
-use Rattle.std.proofs.Common.{◌≡◌, ℕ, zero, suc, ◌+◌, ◌-◌, ◌<◌, ◌≤◌, max, ◌⊎◌, inl, inr, Bool, true, false, ◌&&◌, eqb, List, [], ◌∷◌, length, map, set, Option, None, Some, IfSome, IsSome, refl, ap, sym, subst, ◌∙◌, arith, ext_get_or, length-set, get_or-set_same, get_or-set_other, nat_lt, slice_index, sum_by, option_map}
+use Rattle.std.proofs.Common.{◌≡◌, ℕ, zero, suc, ◌+◌, ◌-◌, ◌<◌, ◌≤◌, max, ◌⊎◌, inl, inr, Bool, true, false, ◌&&◌, eqb, List, length, map, set, Option, None, Some, IfSome, IsSome, refl, ap, sym, subst, ◌∙◌, arith, ext_get_or, length-set, get_or-set_same, get_or-set_other, nat_lt, slice_index, sum_by, option_map}
 use Rattle.std.specs.List.{list_all, range_with_len}
 use Rattle.std.specs.Option.{option_map_or}
 use Rattle.std.proofs.lemmas.Bool.{and_from, and_parts, cases_Bool, cases_eq, cases_lt, cond-true, eq-eqb, eqb-true, false≢true, le-ltb, lt-ltb, ltb-false, ltb-true}
@@ -9,12 +9,11 @@ use Rattle.std.proofs.lemmas.List.FromFn.{get_or-map-range_with_len, length-map-
 use Rattle.std.proofs.lemmas.List.Sums.{sum_by-cons}
 use Rattle.std.proofs.lemmas.Option.{cond_some, same_Some}
 use Rattle.qc_model.specs.declared.decision.Decision.{Decision}
-use Rattle.qc_model.specs.declared.decision.Decision.TheVariants.{Assign, Order}
 use Rattle.qc_model.specs.declared.turn.Turn.{Turn}
 use Rattle.qc_model.specs.declared.turn.Turn.TheVariants.{OneWay, Free}
-use Rattle.qc_model.specs.Early.{are_met, early, early_by, is_in_reach, least_starts, let_by, put_off, starts_after}
+use Rattle.qc_model.specs.Early.{are_met, early, early_by, least_starts, let_by, put_off, starts_after}
 use Rattle.qc_model.specs.Instance.{InstanceView, Valid, ticks_of}
-use Rattle.qc_model.specs.Nodes.{AreLeast, IsInReach, Meets, forced, greatest, head, reaches}
+use Rattle.qc_model.specs.Nodes.{AreLeast, IsInReach, Meets, forced, greatest, head, is_in_reach}
 use Rattle.qc_model.specs.Work.{task_numbers}
 use Rattle.qc_model.proofs.CompleteNodes.{forced_ticks}
 use Rattle.qc_model.proofs.Extremes.{greatest_le, le_greatest}
@@ -174,7 +173,7 @@ module _ (inst : InstanceView) (ds : List Decision) where
   -- starts that are found for a node
   pub record AreFound (starts : List ℕ) : Type 0 where
     pub least : AreLeast inst ds starts
-    pub in_reach : is_in_reach inst ds ≡ true
+    pub in_reach : IsInReach inst ds
 
   stay_met : (k : ℕ) → are_met inst ds (after k) ≡ true → Meets inst ds (after k)
   stay_met k t = record {
@@ -370,27 +369,13 @@ module _ (inst : InstanceView) (ds : List Decision) (v : Valid inst) (starts : L
       eq-eqb (put_off inst ds starts j) (slice_index starts j)
       (omega (arith, met_stay inst ds starts least.meets j (omega arith))))
 
-  pub least_found : is_in_reach inst ds ≡ true → least_starts inst ds ≡ Some starts
+  pub least_found : IsInReach inst ds → least_starts inst ds ≡ Some starts
   least_found reach =
       let last = starts_after inst ds (length inst.tasks) in
       let met : are_met inst ds last ≡ true = subst (λ (s : List ℕ). are_met inst ds s ≡ true) (sym all_there) all_met in
       cond-true (is_in_reach inst ds && are_met inst ds last) (Some last) None
       (and_from (is_in_reach inst ds) (are_met inst ds last) reach met)
       ∙ ap Some all_there
-
--- ---- reach, as a fact and as a test
-
-pub reach_test : (inst : InstanceView) (ds : List Decision) → IsInReach inst ds → is_in_reach inst ds ≡ true
-reach_test inst [] reach = refl
-reach_test inst (Assign j k ∷ ds) reach =
-    and_from (reaches inst j k) (is_in_reach inst ds) reach.0 (reach_test inst ds reach.1)
-reach_test inst (Order i j ∷ ds) reach = reach_test inst ds reach
-
-pub reach_fact : (inst : InstanceView) (ds : List Decision) → is_in_reach inst ds ≡ true → IsInReach inst ds
-reach_fact inst [] t = tt
-reach_fact inst (Assign j k ∷ ds) t =
-    let both = and_parts (reaches inst j k) (is_in_reach inst ds) t in (both.0, reach_fact inst ds both.1)
-reach_fact inst (Order i j ∷ ds) t = reach_fact inst ds t
 
 -- ---- from when tasks can start
 
@@ -422,7 +407,7 @@ pub early_free : (inst : InstanceView) (ds : List Decision) → Valid inst → I
 early_free inst ds v reach free starts least =
     ap (λ turn. early_by turn inst ds) free
     ∙ ap (option_map {U = ℕ → ℕ} (λ starts j. slice_index starts j))
-    (least_found inst ds v starts least (reach_test inst ds reach))
+    (least_found inst ds v starts least reach)
 
 -- of a node with least starts in reach they are always known
 pub early_some : (inst : InstanceView) (ds : List Decision) → Valid inst → IsInReach inst ds

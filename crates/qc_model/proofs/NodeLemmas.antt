@@ -1,5 +1,5 @@
 -- What a node asks for holds of every schedule of the instance's turn that agrees with it.
-use Rattle.std.proofs.Common.{◌≡◌, ℕ, zero, suc, ◌+◌, ◌*◌, ◌<◌, ◌≤◌, max, Bool, true, false, eqb, ◌&&◌, ◌==◌, inl, inr, T, List, [], ◌∷◌, length, get_or, map, Contains, Option, None, Some, IfSome, IsSome, ◌≢◌, ◌⊎◌, ℤ, refl, ap, sym, subst, subst₂, ◌∙◌, arith, mul-zero, pos_of_ne-zero, int_lt, nat_lt, slice_index}
+use Rattle.std.proofs.Common.{◌≡◌, ℕ, zero, suc, ◌+◌, ◌*◌, ◌<◌, ◌≤◌, max, Bool, true, false, eqb, ◌&&◌, ◌==◌, inl, inr, T, List, [], ◌∷◌, length, get_or, map, Contains, Option, None, Some, IfSome, IsSome, is_some, ◌≢◌, ◌⊎◌, ℤ, refl, ap, sym, subst, subst₂, ◌∙◌, arith, mul-zero, pos_of_ne-zero, int_lt, nat_lt, slice_index}
 use Rattle.std.proofs.lemmas.Bool.{and_from, and_parts, cases_eq, cases_lt, cond-true, cond_both, eq-eqb, eqb-false, eqb-true, false_from_ne_true, false≢true, le-ltb, ltb-true, or_cases, or_left, or_right}
 use Rattle.std.proofs.lemmas.List.{length-map}
 use Rattle.std.proofs.lemmas.List.Folds.{list_any_at}
@@ -14,7 +14,7 @@ use Rattle.qc_model.specs.declared.turn.Turn.TheVariants.{OneWay, Free}
 use Rattle.qc_model.specs.Bays.{bays_between}
 use Rattle.qc_model.specs.Frames.{GoesBy}
 use Rattle.qc_model.specs.Instance.{InstanceView, IsApart, IsBefore, Valid, bay_of, no_task, pair_of, ticks_of}
-use Rattle.qc_model.specs.Nodes.{Agrees, Clash, Conflicts, Fits, IsInReach, IsSettled, Meets, assigned, berth_wait, clear_ticks, crane_ticks, forced, free, greater, greatest, head_by, is_before, is_ordered, is_sooner, pair_ticks, reaches, separation, sooner_ticks, upward_ticks}
+use Rattle.qc_model.specs.Nodes.{Agrees, Clash, Conflicts, Fits, IsInReach, IsSettled, Meets, assigned, berth_wait, clear_ticks, crane_ticks, forced, free, greater, greatest, head_by, is_before, is_in_reach, is_ordered, is_sooner, pair_ticks, reaches, separation, sooner_ticks, upward_ticks}
 use Rattle.qc_model.specs.OneWay.{GoesUp}
 use Rattle.qc_model.specs.Rules.{Feasible, KeepsReach, crane_of, end_of, last_end, slot_distance, start_of, starts}
 use Rattle.qc_model.specs.Ticks.{berth_distance, distance, lead, task_distance, travel_between}
@@ -55,12 +55,28 @@ ordered_forced inst ds i j t =
     let ticks : sooner_ticks inst ds i j ≡ Some (ticks_of inst i) = cond-true (is_sooner inst ds i j) _ None sooner in
     subst (λ (o : Option ℕ). IsSome (greater o cranes)) (sym ticks) (greater_some (ticks_of inst i) cranes)
 
+-- one of two settled tasks is forced after the other; which of them is named first doesn't matter
+pub settled_cases : (inst : InstanceView) (ds : List Decision) (i j : ℕ) → IsSettled inst ds i j
+    → IsSome (forced inst ds i j) ⊎ IsSome (forced inst ds j i)
+settled_cases inst ds i j = or_cases (is_some (forced inst ds i j)) (is_some (forced inst ds j i))
+
+pub settled_by : (inst : InstanceView) (ds : List Decision) (i j : ℕ)
+    → IsSome (forced inst ds i j) ⊎ IsSome (forced inst ds j i) → IsSettled inst ds i j
+settled_by inst ds i j (inl some) = or_left (is_some (forced inst ds i j)) (is_some (forced inst ds j i)) some
+settled_by inst ds i j (inr some) = or_right (is_some (forced inst ds i j)) (is_some (forced inst ds j i)) some
+
+pub settled_turned : (inst : InstanceView) (ds : List Decision) (i j : ℕ) → IsSettled inst ds i j → IsSettled inst ds j i
+settled_turned inst ds i j settled = elim (settled_cases inst ds i j settled) [
+  | inl some ↦ settled_by inst ds j i (inr some)
+  | inr some ↦ settled_by inst ds j i (inl some)
+]
+
 -- two tasks of which neither is forced after the other aren't ordered
 pub unsettled_unordered : (inst : InstanceView) (ds : List Decision) (i j : ℕ) → (¬ IsSettled inst ds i j)
     → (is_ordered ds i j ≡ false) × (is_ordered ds j i ≡ false)
 unsettled_unordered inst ds i j unsettled = (
-  false_from_ne_true (is_ordered ds i j) (λ h. unsettled (inl (ordered_forced inst ds i j h))),
-  false_from_ne_true (is_ordered ds j i) (λ h. unsettled (inr (ordered_forced inst ds j i h))),
+  false_from_ne_true (is_ordered ds i j) (λ h. unsettled (settled_by inst ds i j (inl (ordered_forced inst ds i j h)))),
+  false_from_ne_true (is_ordered ds j i) (λ h. unsettled (settled_by inst ds i j (inr (ordered_forced inst ds j i h)))),
 )
 
 -- ---- tasks that conflict
@@ -143,12 +159,15 @@ before_found i j (p ∷ ps) t = elim (or_cases (is_pair i j p) (list_any (is_pai
   | inr e ↦ let c = before_found i j ps e in (suc c.0, omega (arith, c.1), c.2)
 ]
 
+pub pair_listed : (i j : ℕ) (pairs : List Pair) → Contains pairs (pair_of i j) → list_any (is_pair i j) pairs ≡ true
+pair_listed i j pairs at =
+    let itself = and_from (eqb i i) (eqb j j) (eq-eqb i i refl) (eq-eqb j j refl) in
+    let found = subst (λ (p : Pair). is_pair i j p ≡ true) (sym at.2) itself in
+    list_any_at (is_pair i j) pairs at.0 (pair_of i j) at.1 found
+
 pub sooner_before : (inst : InstanceView) (ds : List Decision) (i j : ℕ) → IsBefore inst i j
     → is_sooner inst ds i j ≡ true
-sooner_before inst ds i j b =
-    let itself = and_from (eqb i i) (eqb j j) (eq-eqb i i refl) (eq-eqb j j refl) in
-    let found = subst (λ (p : Pair). is_pair i j p ≡ true) (sym b.2) itself in
-    or_left _ (is_ordered ds i j) (list_any_at (is_pair i j) inst.before b.0 (pair_of i j) b.1 found)
+sooner_before inst ds i j b = or_left (is_before inst i j) (is_ordered ds i j) (pair_listed i j inst.before b)
 
 pub T_true : {b : Bool} → T b → b ≡ true
 T_true {b = true} t = refl
@@ -315,9 +334,9 @@ module _ (inst : InstanceView) (ds : List Decision) (sched : List Slot) (g : Goe
 -- and its tasks are in reach
 pub in_reach_of : (inst : InstanceView) (sched : List Slot) → Feasible inst sched
     → (ds : List Decision) → Fits inst ds → Agrees inst ds sched → IsInReach inst ds
-in_reach_of inst sched f [] fits a = tt
+in_reach_of inst sched f [] fits a = refl
 in_reach_of inst sched f (Order i j ∷ ds) fits a = in_reach_of inst sched f ds fits.3 a.1
 in_reach_of inst sched f (Assign j k ∷ ds) fits a =
     let reach =
     subst (λ (v : ℕ). reaches inst j v ≡ true) a.0 (within_reach inst sched j (f.reach j fits.0)) in
-    (reach, in_reach_of inst sched f ds fits.3 a.1)
+    and_from (reaches inst j k) (is_in_reach inst ds) reach (in_reach_of inst sched f ds fits.3 a.1)

@@ -1,13 +1,12 @@
 -- public: from when tasks can start at a node.
-use Rattle.std.specs.Prelude.{ℕ, zero, suc, ◌+◌, max, Bool, true, ◌&&◌, ◌==◌, if◌then◌else◌, List, [], ◌∷◌, map, length, slice_index, Option, None, Some, option_map}
+use Rattle.std.specs.Prelude.{ℕ, zero, suc, ◌+◌, max, Bool, ◌&&◌, ◌==◌, if◌then◌else◌, List, map, length, slice_index, Option, None, Some, option_map}
 use Rattle.std.specs.List.{list_all}
 use Rattle.std.specs.Option.{option_map_or}
 use Rattle.qc_model.specs.declared.decision.Decision.{Decision}
-use Rattle.qc_model.specs.declared.decision.Decision.TheVariants.{Assign, Order}
 use Rattle.qc_model.specs.declared.turn.Turn.{Turn}
 use Rattle.qc_model.specs.declared.turn.Turn.TheVariants.{OneWay, Free}
 use Rattle.qc_model.specs.Instance.{InstanceView}
-use Rattle.qc_model.specs.Nodes.{forced, greatest, head, reaches}
+use Rattle.qc_model.specs.Nodes.{forced, greatest, head, is_in_reach}
 use Rattle.qc_model.specs.Work.{task_numbers}
 
 -- when task i, with these starts, lets task j start; 0 where it forces nothing
@@ -26,12 +25,6 @@ starts_after inst ds (suc n) = map (put_off inst ds (starts_after inst ds n)) (t
 -- none of the starts is put off any more
 abbrev pub are_met : InstanceView → List Decision → List ℕ → Bool
 are_met inst ds starts = list_all (λ j. put_off inst ds starts j == slice_index starts j) (task_numbers inst)
-
--- each assigned task lies within the reach of its crane
-abbrev pub is_in_reach : InstanceView → List Decision → Bool
-is_in_reach inst [] = true
-is_in_reach inst (Assign j k ∷ ds) = reaches inst j k && is_in_reach inst ds
-is_in_reach inst (Order i j ∷ ds) = is_in_reach inst ds
 
 -- the least starts of a node: the heads, put off as often as there are tasks, for no chain is longer; none where they
 -- would be put off still, so that no starts meet the node, or where a decision is out of reach

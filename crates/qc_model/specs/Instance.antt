@@ -1,5 +1,6 @@
 -- public: instances, and what every one keeps.
-use Rattle.std.specs.Prelude.{◌≡◌, ◌≢◌, ℕ, ◌+◌, ◌<◌, ◌≤◌, ℤ, pos, negsuc, ◌+ℤ◌, ◌-ℤ◌, ◌≤ℤ◌, ◌⊎◌, ◌↔◌, List, [], ◌∷◌, length, slice_index_or, sum_by, AllPairs, Contains}
+use Rattle.std.specs.Prelude.{◌≡◌, ◌≢◌, ℕ, ◌+◌, ◌<◌, ◌≤◌, ℤ, pos, negsuc, ◌+ℤ◌, ◌-ℤ◌, ◌≤ℤ◌, ◌⊎◌, ◌↔◌, Bool, IsTrue, ◌&&◌, ◌==◌, List, [], ◌∷◌, length, slice_index_or, sum_by, AllPairs, Contains}
+use Rattle.std.specs.List.{list_any}
 use Rattle.qc_model.specs.Numbers.{most_apart, most_cranes, most_gap, most_gap_by_places, most_hatches, most_place, most_ready, most_tasks, most_travel, most_travel_by_places, most_work}
 use Rattle.qc_model.specs.declared.task.Task.{Task}
 use Rattle.qc_model.specs.declared.task.Phase.TheVariants.{DeckOut}
@@ -61,8 +62,11 @@ abbrev pub IsBefore : InstanceView → ℕ → ℕ → Type 0
 IsBefore inst i j = Contains inst.before (pair_of i j)
 
 -- tasks i and j may not run at the same time
+abbrev pub is_apart : InstanceView → ℕ → ℕ → Bool
+is_apart inst i j = list_any (λ pair. (pair.first == i) && (pair.second == j)) inst.apart
+
 abbrev pub IsApart : InstanceView → ℕ → ℕ → Type 0
-IsApart inst i j = Contains inst.apart (pair_of i j)
+IsApart inst i j = IsTrue (is_apart inst i j)
 
 -- the order of pairs: by the first task, then by the second
 abbrev pub IsEarlier : Pair → Pair → Type 0

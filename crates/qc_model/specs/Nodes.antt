@@ -1,6 +1,6 @@
 -- public: nodes of a search: lists of decisions, and what they ask of every schedule of the instance's turn
 -- that agrees with them.
-use Rattle.std.specs.Prelude.{◌≡◌, ◌≢◌, ℕ, ◌+◌, ◌-◌, ◌*◌, ◌/◌, ◌<◌, ◌≤◌, ◌⊎◌, max, min, Bool, false, IsTrue, IsFalse, ◌&&◌, ◌||◌, ◌==◌, nat_lt, int_le, int_lt, if◌then◌else◌, List, [], ◌∷◌, map, filter, length, slice_index, Option, None, Some, IsSome, unwrap_or}
+use Rattle.std.specs.Prelude.{◌≡◌, ◌≢◌, ℕ, ◌+◌, ◌-◌, ◌*◌, ◌/◌, ◌<◌, ◌≤◌, ◌⊎◌, max, min, Bool, true, false, IsTrue, IsFalse, ◌&&◌, ◌||◌, ◌==◌, nat_lt, int_le, int_lt, if◌then◌else◌, List, [], ◌∷◌, map, filter, length, slice_index, Option, None, Some, IsSome, is_some, unwrap_or}
 use Rattle.std.specs.List.{list_any, range_with_len}
 use Rattle.qc_model.specs.declared.decision.Decision.{Decision}
 use Rattle.qc_model.specs.declared.decision.Decision.TheVariants.{Assign, Order}
@@ -113,8 +113,11 @@ forced inst ds i j =
     greater (sooner_ticks inst ds i j) (crane_ticks inst (is_sooner inst ds i j) i j (assigned ds i) (assigned ds j))
 
 -- one of the two tasks is forced to start after the other
+abbrev pub is_settled : InstanceView → List Decision → ℕ → ℕ → Bool
+is_settled inst ds i j = is_some (forced inst ds i j) || is_some (forced inst ds j i)
+
 abbrev pub IsSettled : InstanceView → List Decision → ℕ → ℕ → Type 0
-IsSettled inst ds i j = IsSome (forced inst ds i j) ⊎ IsSome (forced inst ds j i)
+IsSettled inst ds i j = IsTrue (is_settled inst ds i j)
 
 -- the greatest of these numbers, and 0 where there is none
 abbrev pub greatest : List ℕ → ℕ
@@ -151,10 +154,13 @@ abbrev pub head : InstanceView → List Decision → ℕ → ℕ
 head inst ds j = head_by inst j (assigned ds j)
 
 -- each assigned task lies within the reach of its crane
+abbrev pub is_in_reach : InstanceView → List Decision → Bool
+is_in_reach inst [] = true
+is_in_reach inst (Assign j k ∷ ds) = reaches inst j k && is_in_reach inst ds
+is_in_reach inst (Order i j ∷ ds) = is_in_reach inst ds
+
 abbrev pub IsInReach : InstanceView → List Decision → Type 0
-IsInReach inst [] = Unit {0}
-IsInReach inst (Assign j k ∷ ds) = IsTrue (reaches inst j k) × IsInReach inst ds
-IsInReach inst (Order i j ∷ ds) = IsInReach inst ds
+IsInReach inst ds = IsTrue (is_in_reach inst ds)
 
 -- the starts keep all that is forced, and no task starts before its head
 pub record Meets (inst : InstanceView) (ds : List Decision) (starts : List ℕ) : Type 0 where

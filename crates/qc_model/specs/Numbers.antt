@@ -67,4 +67,4 @@ most_distance = 600000000
 
 -- the most branchings of a bound tree
 abbrev pub most_branchings : ℕ
-most_branchings = 100000
+most_branchings = 1000000

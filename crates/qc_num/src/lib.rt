@@ -3,7 +3,8 @@
 //!
 //! A text is the number that it is in plain decimal, if it is one (`plain_number`). A short text is
 //! what was pushed onto it, never longer than its room (`Text`). Bytes are the list that they were
-//! made of (`Bytes`), and of two bounds the lesser is found (`Bound`).
+//! made of (`Bytes`). Of two bounds the lesser is found (`Bound`), of two ticks too (`lesser`), and
+//! what divides both (`gcd`).
 #![tactic(auto)]
 
 mod bound;
@@ -13,6 +14,7 @@ mod memory;
 mod path;
 mod read_error;
 mod text;
+mod ticks;
 
 pub use bound::Bound;
 pub use bytes::Bytes;
@@ -21,6 +23,7 @@ pub use memory::OutOfMemory;
 pub use path::Path;
 pub use read_error::ReadError;
 pub use text::Text;
+pub use ticks::{gcd, lesser};
 
 /// A time or a length of time. The tick is the unit of time.
 pub type Tick = u64;

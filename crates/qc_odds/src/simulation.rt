@@ -12,6 +12,7 @@ ghost use Rattle.qc_past.specs.declared.task.PastTask.{PastTask};
 use crate::course::Course;
 use crate::odds::Odds;
 use crate::run_lengths::lengths;
+use qc_io::Shelf;
 use qc_model::{Instance, Schedule};
 use qc_num::{OutOfMemory, Tick};
 use qc_past::Past;
@@ -140,25 +141,28 @@ impl Simulation {
 }
 
 /// Works a plan so many times, each time with lengths that are drawn from what tasks of past calls took, and tells what
-/// these runs come to. All memory is taken before the first run.
-pub fn simulate(
+/// these runs come to. All memory is taken before the first run. The shelf is told of each run that is done.
+pub fn simulate<S: Shelf>(
     alloc: Global,
     inst: &Instance,
     plan: &Schedule,
     past: &Past,
     seed: u32,
     runs: u16,
+    shelf: &mut S,
 ) -> Result<Odds, OutOfMemory>
     requires plan { Feasible inst.now plan.now }
     requires few { runs ≤ 10000 }
     ensures odds { IfOk result (AreOdds past.now inst.now plan.now seed runs) }
     ensures small { IfOk result (AreSmall runs) }
     ensures valid { Valid inst.now }
+    ensures view_stays { S.Sink.view shelf.new ≡ S.Sink.view shelf.old }
 {
     let _tasks = inst.task_count();
     let mut simulation = Simulation::open(alloc, inst, plan, runs)?;
     for before in 0..runs {
         simulation.run(past, seed, u32::from(before) + 1);
+        shelf.tell_runs(u32::from(before) + 1, u32::from(runs));
     }
     Ok(simulation.close())
 }

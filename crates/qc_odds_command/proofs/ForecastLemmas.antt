@@ -8,6 +8,7 @@ use Rattle.qc_odds.specs.declared.odds.Odds.{Odds}
 use Rattle.qc_past.specs.declared.task.PastTask.{PastTask}
 use Rattle.qc_run.specs.declared.reading.Job.{Job}
 use Rattle.qc_run.specs.declared.refusal.Stop.{Stop}
+use Rattle.qc_run.specs.declared.refusal.Stop.TheVariants as stop
 use Rattle.qc_run.specs.Due.{job_due, past_due}
 use Rattle.qc_run.specs.Inputs.{Simulating}
 use Rattle.qc_run.specs.Steps.{ComesTo, IsStep}
@@ -49,6 +50,18 @@ module _ (asked : Simulating) {before mid after : View} {job : Job} (first : IsS
     forecast_told told tells = record {
       ok = (reads, record { read = job; due = first.ok.1; tells = record { past = past; due = read; tells = tells } });
       err = tt;
+      may = tt;
+      files = second.files ∙ first.files;
+      made = second.made ∙ first.made;
+      faults = second.faults ∙ first.faults;
+      read_faults = omega (arith, first.read_faults, second.read_faults);
+    }
+
+    -- memory was wanting for the runs
+    pub forecast_unheld : IsOddsAccount asked before after (Err stop.OutOfMemory)
+    forecast_unheld = record {
+      ok = tt;
+      err = inl reads;
       may = tt;
       files = second.files ∙ first.files;
       made = second.made ∙ first.made;

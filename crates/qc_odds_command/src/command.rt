@@ -41,7 +41,9 @@ fn forecast<S: Shelf>(
         Ok(past) => past,
         Err(stop) => return Err(stop),
     };
-    match simulate(alloc, &job.inst, &job.sched, &past, asked.seed, asked.runs) {
+    match simulate(
+        alloc, &job.inst, &job.sched, &past, asked.seed, asked.runs, shelf,
+    ) {
         Ok(odds) => Ok(Forecasting::Forecast(Forecast {
             job,
             odds,

@@ -159,16 +159,16 @@ own_taken inst sched best (Some first) form by = record {
 -- where the planner has a schedule, the best one ends no later than its tight form
 pub own_end : (inst : InstanceView) (nodes : ℕ) (own : Option (List Slot)) (tree : Tree) (done : DoneView)
     → IsFound inst nodes own tree done → IfSome own (IsAtMostTight inst (best_end inst done.best))
-own_end inst nodes own tree done found = by own found.own_offered
+own_end inst nodes own tree done found = by own found.begins.own_offered
   where
-    by : (own : Option (List Slot)) → WasOffered inst own None found.own_first
+    by : (own : Option (List Slot)) → WasOffered inst own None found.begins.own_first
         → IfSome own (IsAtMostTight inst (best_end inst done.best))
     by None offered = tt
     by (Some sched) offered =
-        own_taken inst sched (best_end inst done.best) found.own_first (offered.taken (λ late. late))
-        (at_most_through (best_end inst done.best) (best_end inst found.first) (best_end inst found.own_first)
+        own_taken inst sched (best_end inst done.best) found.begins.own_first (offered.taken (λ late. late))
+        (at_most_through (best_end inst done.best) (best_end inst found.first) (best_end inst found.begins.own_first)
         found.came.sound.no_later
-        (offered_sooner inst found.found found.own_first found.first found.offered))
+        (offered_sooner inst found.begins.found found.begins.own_first found.first found.begins.offered))
 
 -- so is the end that is told
 pub own_no_later : (inst : InstanceView) (nodes : ℕ) (own : Option (List Slot)) (tree : Tree) (done : DoneView)

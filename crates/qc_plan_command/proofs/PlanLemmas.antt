@@ -319,7 +319,7 @@ module _ (asked : Planning) (before after pb pa : View) (ended : Status)
   all_left : (a : PlanAnswer) (files : Option Files) → IfSome files (λ held. IsWritten asked held after.files a)
       → IfSome files (λ held. IsLeft asked held after.files)
   all_left a None h = tt
-  all_left a (Some held) h = inr (h.search, inr h.files)
+  all_left a (Some held) h = inr (inr (h.search, inr h.files))
 
   stopped_left : (files : Option Files) → IfSome files (λ held. IsStopped asked held after.files)
       → IfSome files (λ held. IsLeft asked held after.files)

@@ -12,6 +12,7 @@ use Rattle.qc_search.specs.Run.{DoneView, IsSound, SearchView, search_from}
 use Rattle.qc_starts.specs.Tight.{IsSeenSo}
 use Rattle.qc_search.specs.Outcome.{WasOffered}
 use Rattle.qc_search.specs.Stored.{IsTreeLeft, IsTreeStored, with_plan}
+use Rattle.qc_search.specs.Stored.{IsSearching as IsTreeSearching}
 use Rattle.qc_run.specs.declared.reading.OwnJob.{OwnJob}
 use Rattle.qc_run.specs.Due.{contents_in, own_job_due}
 use Rattle.qc_run.specs.declared.broken.Broken.{Broken}
@@ -21,7 +22,7 @@ use Rattle.qc_run.specs.Steps.{ComesTo, IsStep}
 use Rattle.qc_run.proofs.DueLemmas.{own_job_turn}
 use Rattle.qc_plan_command.specs.declared.answer.PlanAnswer.{PlanAnswer}
 use Rattle.qc_plan_command.specs.declared.answer.PlanAnswer.TheVariants as answer
-use Rattle.qc_plan_command.specs.Account.{IsLeft, IsPlanning, IsSearched, IsStopped, IsWritten, Writes}
+use Rattle.qc_plan_command.specs.Account.{IsLeft, IsPlanning, IsSearched, IsSearching, IsStopped, IsWritten, Writes}
 use Rattle.qc_plan_command.specs.Found.{IsSoundAnswer, Tells}
 use Rattle.qc_plan_command.specs.Resources.{IsSearchFor, WasRun}
 
@@ -87,12 +88,28 @@ module _ (asked : Planning) (job : OwnJob) (allowed : IfSome job.own (IsAllowed 
       tree = stored.tree;
       done = done;
       found = record {
-        found = ran.found;
-        own_first = search.first;
-        own_offered = is.offered;
         first = ran.first;
-        offered = ran.offered;
+        begins = record { found = ran.found; own_first = search.first; own_offered = is.offered; offered = ran.offered };
         came = stored.came;
+      };
+    }
+
+    -- the search that is due has come so far
+    abbrev searching : (held : Files)
+        → ComesTo (own_job_due asked.inputs.own) asked.inputs (Some held) (Ok job)
+        → IsTreeSearching now asked.tree held mid → IsSearching asked held
+    searching held due_is stored = record {
+      inst = job.inst;
+      own = job.own;
+      due = due_is;
+      allowed = allowed;
+      tree = stored.tree;
+      found = record {
+        first = ran.first;
+        begins = record { found = ran.found; own_first = search.first; own_offered = is.offered; offered = ran.offered };
+        best = stored.best;
+        branched = stored.branched;
+        ran = stored.ran;
       };
     }
 
@@ -115,7 +132,7 @@ module _ (asked : Planning) (job : OwnJob) (allowed : IfSome job.own (IsAllowed 
             → IfSome files (λ held. IsLeft asked held mid)
         by None due_is left = tt
         by (Some held) due_is (inl same) = inl same
-        by (Some held) due_is (inr stored) = inr (searched held stored.0 due_is stored.1, inl stored.1.files)
+        by (Some held) due_is (inr stored) = inr (inl (searching held due_is stored, stored.files))
 
     -- the plan's file couldn't be made
     pub at_plan : (done : DoneView) → IfSome created (λ held. IsTreeStored now asked.tree held mid done)
@@ -129,11 +146,11 @@ module _ (asked : Planning) (job : OwnJob) (allowed : IfSome job.own (IsAllowed 
             → IfSome files (λ held. IsTreeStored now asked.tree held mid done)
             → IfSome files (λ held. IsLeft asked held after)
         by None due_is stored = tt
-        by (Some held) due_is stored = inr (
+        by (Some held) due_is stored = inr (inr (
           searched held done due_is stored,
           over (λ files. (after ≡ Some files) ⊎ (after ≡ Some (with_plan files asked.plan job.inst done.best))) _
               stored.files left,
-        )
+        ))
 
     -- both were made, and the answer tells of the search
     pub at_end : (done : DoneView) (a : PlanAnswer)

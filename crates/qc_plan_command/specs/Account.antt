@@ -5,7 +5,7 @@ use Rattle.qc_model.specs.declared.schedule.Slot.{Slot}
 use Rattle.qc_model.specs.Instance.{InstanceView, Valid}
 use Rattle.qc_model.specs.OneWay.{IsAllowed}
 use Rattle.qc_search.specs.Run.{DoneView}
-use Rattle.qc_search.specs.Outcome.{IsFound}
+use Rattle.qc_search.specs.Outcome.{IsFound, IsFoundSoFar}
 use Rattle.qc_search.specs.Stored.{with_plan, with_tree}
 use Rattle.qc_tree.specs.Trees.{Tree}
 use Rattle.qc_run.specs.declared.refusal.Stop.{Stop}
@@ -48,10 +48,22 @@ pub record IsWritten (asked : Planning) (held : Files) (now : Option Files) (a :
   pub told : Tells search.inst search.done a
   pub files : now ≡ Some (both_files asked held search)
 
--- all files are as they were, or the tree's file is whole, or that and the plan's file are
+-- the search of the instance of the two files has run in rounds so far; cranes may follow a plan of the planner's own, where
+-- one is named
+pub record IsSearching (asked : Planning) (held : Files) : Type 0 where
+  pub inst : InstanceView
+  pub own : Option (List Slot)
+  pub due : own_job_due asked.inputs.own (contents_in held asked.inputs) ≡ Ok (record { inst = inst; own = own })
+  pub allowed : IfSome own (IsAllowed inst)
+  pub tree : Tree
+  pub found : IsFoundSoFar inst asked.nodes own tree
+
+-- all files are as they were, or the tree's file is whole and holds that of the rounds so far, or that of all of them, which
+-- the plan's file may follow
 abbrev pub IsLeft : Planning → Files → Option Files → Type 0
 IsLeft asked held now =
     (now ≡ Some held)
+    ⊎ ((s : IsSearching asked held) × (now ≡ Some (with_tree held asked.tree s.inst s.tree)))
     ⊎ ((s : IsSearched asked held) × ((now ≡ Some (tree_files asked held s)) ⊎ (now ≡ Some (both_files asked held s))))
 
 -- the instance of the two files was there to be searched, and cranes may follow a plan of the planner's own, where one is

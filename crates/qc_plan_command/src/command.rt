@@ -25,7 +25,7 @@ use crate::way::own_way;
 use qc_io::{Shelf, Sink, WriteFault};
 use qc_model::Instance;
 use qc_run::{Ended, OwnJob, PlanAsked, Stop, read_own_job, report_stop};
-use qc_search::{Done, Search, store_best, store_tree};
+use qc_search::{Done, Search, store_best};
 use std::alloc::Global;
 
 /// Runs the search and makes the tree's file. Where a schedule is found ahead of it, it is offered that. Whoever waits is
@@ -43,12 +43,12 @@ fn run_search<S: Shelf>(
         (S.Sink.view shelf.old).files (S.Sink.view shelf.new).files result }
     ensures counts { Counts (S.Sink.view shelf.old).faults (S.Sink.view shelf.new).faults result }
     ensures read_faults { (S.Sink.view shelf.new).read_faults ≡ (S.Sink.view shelf.old).read_faults }
-    ensures unmade { OnOk result ((S.Sink.view shelf.new).made ≡ None) }
+    ensures unmade { IfOk result (λ done. done.best ≡ None → (S.Sink.view shelf.new).made ≡ None) }
 {
     ahead.offer_to(inst, &mut search);
     let known = search.outlook();
     tell(&search, known, shelf);
-    store_tree(search, asked.tree, shelf)
+    search.store_tree(asked.tree, shelf)
 }
 
 /// Runs the search, and writes its tree and the plan of the best schedule that it knows. The plan's file is begun first,

@@ -1,11 +1,13 @@
-//! A shelf that tells how far a search has come whose tree is written to it.
+//! A shelf that tells how far a search has come whose tree is written to it, and how many runs are done.
 ghost use Rattle.std.specs.Prelude.{◌≡◌};
 
+use crate::runs::RunsLine;
 use crate::sight::ProgressLine;
 use qc_io::{Failed, Outlook, Shelf, Sink};
 
 /// A shelf that sees the lines of the tree that a search writes to it, and tells on standard error how far the search
-/// has come, in a line that is written over. To whoever reads from it or writes to it, it is the shelf that it wraps.
+/// has come, in a line that is written over; and so how many runs are done of those that it is told of. To whoever reads
+/// from it or writes to it, it is the shelf that it wraps.
 #[derive(Drop)]
 pub struct Progress<'a, S, R> {
     shelf: S,
@@ -14,6 +16,8 @@ pub struct Progress<'a, S, R> {
     is_shown: bool,
     /// What is known of the search that runs; none where none does, or nobody looks.
     sight: Option<ProgressLine>,
+    /// Whether a line stands that is to be cleared.
+    stands: bool,
 }
 
 impl<'a, S: Shelf, R: Eprint> Progress<'a, S, R> {
@@ -26,6 +30,7 @@ impl<'a, S: Shelf, R: Eprint> Progress<'a, S, R> {
             rt,
             is_shown,
             sight: None,
+            stands: false,
         }
     }
 
@@ -39,6 +44,7 @@ impl<'a, S: Shelf, R: Eprint> Progress<'a, S, R> {
             rt: _,
             is_shown: _,
             sight: _,
+            stands: _,
         } = self;
         shelf
     }
@@ -48,7 +54,20 @@ impl<'a, S: Shelf, R: Eprint> Progress<'a, S, R> {
         ensures { self.new.shelf ≡ self.old.shelf }
     {
         self.sight = Some(sight);
+        self.stands = true;
         let _ = self.rt.eprint(format_args!("\r{sight}\x1b[K"));
+    }
+
+    /// Tells how many runs are done where it is worth it, and clears the line with the last.
+    fn show_runs(&mut self, told: RunsLine)
+        ensures { self.new.shelf ≡ self.old.shelf }
+    {
+        if told.is_worth() {
+            self.stands = true;
+            let _ = self.rt.eprint(format_args!("\r{told}\x1b[K"));
+        } else if told.is_last() {
+            self.clear();
+        }
     }
 
     /// Sees a line that is written, and tells it where it is worth it.
@@ -65,11 +84,13 @@ impl<'a, S: Shelf, R: Eprint> Progress<'a, S, R> {
         }
     }
 
-    /// Clears the line: the search runs no more.
+    /// Clears the line: neither a search nor a run goes on.
     fn clear(&mut self)
         ensures { self.new.shelf ≡ self.old.shelf }
     {
-        if self.sight.take().is_some() {
+        self.sight = None;
+        if self.stands {
+            self.stands = false;
             let _ = self.rt.eprint("\r\x1b[K");
         }
     }
@@ -119,5 +140,16 @@ impl<S: Shelf, R: Eprint> Shelf for Progress<'_, S, R> {
             self.show(ProgressLine::new(outlook));
         }
         self.shelf.tell(outlook);
+    }
+
+    fn tell_runs(&mut self, done: u32, runs: u32) {
+        if self.is_shown {
+            self.show_runs(RunsLine { done, runs });
+        }
+        self.shelf.tell_runs(done, runs);
+    }
+
+    fn replaces(&self) -> bool {
+        self.shelf.replaces()
     }
 }

@@ -103,7 +103,7 @@ impl fmt::Display for Named {
 
 /// A number with a comma between its thousands.
 #[derive(Clone, Copy)]
-struct Grouped(u64);
+pub(crate) struct Grouped(pub(crate) u64);
 
 impl fmt::Display for Grouped {
     fn fmt<W: fmt::Write>(&self, f: &mut fmt::Formatter<W>) -> fmt::Result {

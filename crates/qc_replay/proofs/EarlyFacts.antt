@@ -1,9 +1,9 @@
 -- The least starts of a node, from decision to decision, and when the first of some tasks can start.
 use Rattle.std.proofs.Common.{◌≡◌, ℕ, zero, suc, ◌+◌, ◌-◌, ◌<◌, ◌⊎◌, inl, inr, false, List, [], ◌∷◌, length, map, drop, Option, None, Some, refl, ap, sym, subst₂, ◌∙◌, arith, option_map, unwrap_or}
-use Rattle.std.proofs.lemmas.Bool.{cases_lt}
+use Rattle.std.proofs.lemmas.Bool.{cases_lt, and_parts}
 use Rattle.qc_dist.specs.Node.{IsOpen}
-use Rattle.qc_close.specs.Model.{Decision, Assign, Order, least_starts, InstanceView, Valid, AreLeast, Fits, HasStarts, IsInReach, least}
-use Rattle.qc_model.proofs.LeastStarts.{found_of, least_found, reach_fact, reach_test}
+use Rattle.qc_close.specs.Model.{Decision, Assign, Order, least_starts, InstanceView, Valid, AreLeast, Fits, HasStarts, IsInReach, least, is_in_reach, reaches}
+use Rattle.qc_model.proofs.LeastStarts.{found_of, least_found}
 use Rattle.qc_model.proofs.NodeLemmas.{unsettled_unordered}
 use Rattle.qc_starts.proofs.Growth.{meets_before}
 use Rattle.qc_starts.specs.Seen.{IsNodeStart, IsReached}
@@ -24,7 +24,7 @@ fits_of inst (Order i j ∷ ds) were =
 
 in_reach_parts : (inst : InstanceView) (d : Decision) (ds : List Decision) → IsInReach inst (d ∷ ds)
     → IsReached inst d × IsInReach inst ds
-in_reach_parts inst (Assign j k) ds reach = (reach.0, reach.1)
+in_reach_parts inst (Assign j k) ds reach = and_parts (reaches inst j k) (is_in_reach inst ds) reach
 in_reach_parts inst (Order i j) ds reach = (tt, reach)
 
 -- with one decision more there are none either
@@ -42,7 +42,7 @@ least_none inst ds none = by_starts (least_starts inst ds) refl
     by_starts None e = e
     by_starts (Some starts) e =
         let found = found_of inst ds starts e in
-        absurd (none (reach_fact inst ds found.in_reach) (record { starts = starts; meets = found.least.meets }))
+        absurd (none found.in_reach (record { starts = starts; meets = found.least.meets }))
 
 -- ---- from decision to decision
 
@@ -116,7 +116,7 @@ module _ (inst : InstanceView) (ds : List Decision) (tasks : List ℕ) where
       → Some tick ≡ option_map first_in (least_starts inst ds)
   first_found v reach tick first =
       ap Some first.is
-      ∙ sym (ap (option_map first_in) (least_found inst ds v first.starts first.are (reach_test inst ds reach)))
+      ∙ sym (ap (option_map first_in) (least_found inst ds v first.starts first.are reach))
 
   pub first_none : HaveNone inst ds → None ≡ option_map first_in (least_starts inst ds)
   first_none none = sym (ap (option_map first_in) (least_none inst ds none))

@@ -10,7 +10,7 @@ use Rattle.qc_num.specs.declared.bound.Bound.TheVariants.{Least, Never}
 use Rattle.qc_num.specs.Bounds.{lesser}
 use Rattle.qc_num.specs.Reading.{◌>>=◌, require}
 use Rattle.qc_num.proofs.ReadingLemmas.{passed}
-use Rattle.qc_close.specs.Model.{Decision, Direction, most_branchings, most_tasks, Pair, InstanceView, IsApart, pair_of, IsSettled, assigned, forced, Leaf, are_tasks, chain, chain_end, is_ring, leaf_value, packed, packed_end, ring, crane_numbers}
+use Rattle.qc_close.specs.Model.{Decision, Direction, most_branchings, most_tasks, Pair, InstanceView, pair_of, IsSettled, assigned, forced, Leaf, are_tasks, chain, chain_end, is_ring, leaf_value, packed, packed_end, ring, crane_numbers, is_settled}
 use Rattle.qc_model.specs.declared.decision.Decision.TheVariants as decide
 use Rattle.qc_tree.specs.declared.line.Line.{Line}
 use Rattle.qc_tree.specs.declared.line.Line.TheVariants.{Chain, Clash, Ring}
@@ -20,7 +20,7 @@ use Rattle.qc_tree.specs.declared.fault.TreeKind.TheVariants as kind
 use Rattle.qc_replay.specs.declared.node.Tally.{Tally}
 use Rattle.qc_dist.specs.Children.{behind}
 use Rattle.qc_replay.specs.Part.{IsJudged, Shows, Standing, nodes, with_branching, within}
-use Rattle.qc_replay.specs.Walk.{Coming, Reading, at_node, branched_to, came, ended_by, from_file, is_apart, is_number, is_settled, may_order, no_order, node, on_pair, on_task}
+use Rattle.qc_replay.specs.Walk.{Coming, Reading, at_node, branched_to, came, ended_by, from_file, is_number, may_order, no_order, node, on_pair, on_task}
 
 pub number_inside : (inst : InstanceView) (i : ℕ) → is_number inst i ≡ true → nat_lt (i - 1) (length inst.tasks) ≡ true
 number_inside inst i is =
@@ -89,26 +89,6 @@ clash_shows inst ds list all end is way r =
     (ap (λ o. ok_or (option_map Least o) kind.NotClash) (sym is)) r
 
 -- ---- numbers and tests
-
-abbrev is_pair : ℕ → ℕ → Pair → Bool
-is_pair i j pair = (pair.first == i) && (pair.second == j)
-
-pub apart_listed : (inst : InstanceView) (i j : ℕ) → IsApart inst i j → is_apart inst i j ≡ true
-apart_listed inst i j b =
-    let itself = and_from (eqb i i) (eqb j j) (eq-eqb i i refl) (eq-eqb j j refl) in
-    let found = subst (λ (p : Pair). is_pair i j p ≡ true) (sym b.2) itself in
-    list_any_at (is_pair i j) inst.apart b.0 (pair_of i j) b.1 found
-
-pub unsettled_false : (inst : InstanceView) (ds : List Decision) (i j : ℕ) → (¬ IsSettled inst ds i j)
-    → is_settled inst ds i j ≡ false
-unsettled_false inst ds i j un =
-    or_from (is_some (forced inst ds i j)) (is_some (forced inst ds j i))
-    (false_from_ne_true (is_some (forced inst ds i j)) (λ e. un (inl e)))
-    (false_from_ne_true (is_some (forced inst ds j i)) (λ e. un (inr e)))
-
-settled_true : (inst : InstanceView) (ds : List Decision) (i j : ℕ) → IsSettled inst ds i j → is_settled inst ds i j ≡ true
-settled_true inst ds i j (inl one) = or_left (is_some (forced inst ds i j)) (is_some (forced inst ds j i)) one
-settled_true inst ds i j (inr two) = or_right (is_some (forced inst ds i j)) (is_some (forced inst ds j i)) two
 
 some_not_none : (o : Option ℕ) → is_some o ≡ true → is_none o ≡ false
 some_not_none None some = absurd (true≢false (sym some))
@@ -277,7 +257,7 @@ module _ (before after : Standing) (live : before.live ≡ true) (tally : Tally)
       pair_judged now un counted is way more =
           tested_pair way more
           ∙ ap (λ b. require b kind.Decided >>= λ _. branched_to (here way more) (map (node way) orders))
-          (ap not (unsettled_false before.inst before.decisions (i - 1) (j - 1) un))
+          (ap not (false_from_ne_true (is_settled before.inst before.decisions (i - 1) (j - 1)) un))
           ∙ branched_on way more now orders counted is
 
       -- a pair that is decided
@@ -286,7 +266,7 @@ module _ (before after : Standing) (live : before.live ≡ true) (tally : Tally)
       pair_decided settled way more =
           tested_pair way more
           ∙ ap (λ b. require b kind.Decided >>= λ _. branched_to (here way more) (map (node way) orders))
-          (ap not (settled_true before.inst before.decisions (i - 1) (j - 1) settled))
+          (ap not settled)
 
       pub pair_too_many : (fault : TreeKind) → (¬ IsSettled before.inst before.decisions (i - 1) (j - 1))
           → with_branching tally ≡ Err fault → (result : Result Tally TreeKind) → result ≡ Err fault
@@ -294,5 +274,5 @@ module _ (before after : Standing) (live : before.live ≡ true) (tally : Tally)
       pair_too_many fault un counted result is way more =
           tested_pair way more
           ∙ ap (λ b. require b kind.Decided >>= λ _. branched_to (here way more) (map (node way) orders))
-          (ap not (unsettled_false before.inst before.decisions (i - 1) (j - 1) un))
+          (ap not (false_from_ne_true (is_settled before.inst before.decisions (i - 1) (j - 1)) un))
           ∙ too_many way more (map (node way) orders) fault counted result is

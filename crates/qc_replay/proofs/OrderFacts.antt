@@ -1,13 +1,13 @@
 -- Whether the order of two tasks may be branched on: as a test, and as a fact.
 use Rattle.std.proofs.Common.{◌≡◌, ◌↔◌, ℕ, ◌-◌, ◌<◌, Bool, true, false, not, ◌&&◌, ◌||◌, ◌==◌, nat_lt, inl, inr, List, length, Option, None, Some, IsTrue, refl, ap, ap₂, sym, subst, ◌∙◌, arith}
 use Rattle.std.proofs.lemmas.Bool.{and_from, and_parts, eq-eqb, eqb-true, false_from_ne_true, false≢true, lt-ltb, ltb-true, ne_eqb, not-true, or_cases, or_left, or_right, true≢false}
-use Rattle.qc_close.specs.Model.{Decision, Turn, OneWay, Free, InstanceView, Valid, Clash, Conflicts, assigned, task_distance}
-use Rattle.qc_model.proofs.NodeLemmas.{before_found, one_way_apart}
+use Rattle.qc_close.specs.Model.{Decision, Turn, OneWay, Free, InstanceView, Valid, Clash, Conflicts, assigned, task_distance, is_apart}
+use Rattle.qc_model.proofs.NodeLemmas.{one_way_apart}
 use Rattle.qc_tree.specs.Trees.{MayOrderBy}
 use Rattle.qc_tree.proofs.OrderLemmas.{may_conflict, may_order_low}
 use Rattle.qc_dist.specs.Node.{Node}
-use Rattle.qc_replay.specs.Walk.{clash, is_apart, is_number, may_order}
-use Rattle.qc_replay.proofs.NodeFacts.{apart_listed, number_inside}
+use Rattle.qc_replay.specs.Walk.{clash, is_number, may_order}
+use Rattle.qc_replay.proofs.NodeFacts.{number_inside}
 
 module _ (inst : InstanceView) (ds : List Decision) (i j : ℕ) where
   -- on two cranes, too near each other
@@ -53,12 +53,12 @@ module _ (inst : InstanceView) (ds : List Decision) (i j : ℕ) where
   -- where the test comes through, the order may be branched on
   pub may_of : (turn : Turn) → inst.turn ≡ turn → i < length inst.tasks → j < length inst.tasks
       → may_order turn inst ds i j ≡ true → MayOrderBy turn inst ds i j
-  may_of OneWay one low high t = before_found i j inst.apart t
+  may_of OneWay one low high t = t
   may_of Free free low high t =
       let parts = and_parts (nat_lt i j) conflicts t in (
         ltb-true i j parts.0,
         elim (or_cases (is_apart inst i j) (clash inst i j (assigned ds i) (assigned ds j)) parts.1) [
-          | inl apart ↦ inl (inl (before_found i j inst.apart apart))
+          | inl apart ↦ inl (inl apart)
           | inr two ↦ inr (clash_of free low high (assigned ds i) (assigned ds j) refl refl two)
         ],
       )
@@ -66,14 +66,14 @@ module _ (inst : InstanceView) (ds : List Decision) (i j : ℕ) where
   module _ (v : Valid inst) where
     conflict_found : i < j → Conflicts inst ds i j → conflicts ≡ true
     conflict_found lower (inl (inl apart)) =
-        or_left (is_apart inst i j) (clash inst i j (assigned ds i) (assigned ds j)) (apart_listed inst i j apart)
+        or_left (is_apart inst i j) (clash inst i j (assigned ds i) (assigned ds j)) apart
     conflict_found lower (inl (inr turned)) = absurd (omega (arith, lower, (v.apart.range j i turned).0))
     conflict_found lower (inr two) =
         or_right (is_apart inst i j) (clash inst i j (assigned ds i) (assigned ds j)) (clash_is two)
 
     -- and where it may, the test comes through
     pub test_of : (turn : Turn) → MayOrderBy turn inst ds i j → may_order turn inst ds i j ≡ true
-    test_of OneWay apart = apart_listed inst i j apart
+    test_of OneWay apart = apart
     test_of Free may = and_from (nat_lt i j) conflicts (lt-ltb i j may.0) (conflict_found may.0 may.1)
 
     may_from : (turn : Turn) → inst.turn ≡ turn → i < j → Conflicts inst ds i j → MayOrderBy turn inst ds i j

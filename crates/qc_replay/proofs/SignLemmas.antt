@@ -1,6 +1,6 @@
 -- The line of a node: where it is accepted it says something that holds, and what holds is accepted.
 use Rattle.std.proofs.Common.{◌≡◌, ℕ, ◌+◌, ◌-◌, ◌*◌, ◌<◌, ◌≤◌, ◌^◌, Bool, true, false, ◌&&◌, cond, List, [], ◌∷◌, ◌++◌, length, map, All, Option, None, Some, IfSome, IsSome, inl, inr, refl, ap, ap₂, sym, ◌∙◌, arith, Err, Ok, Result, decimal, is_none, is_some, nat_le, nat_lt, not, ok_or, option_and_then, option_map, unwrap_or}
-use Rattle.std.proofs.lemmas.Bool.{and_from, and_parts, cond_both, false≢true, le-leb, leb-true, lt-ltb, ltb-true, not-true, or_left, or_right}
+use Rattle.std.proofs.lemmas.Bool.{and_from, and_parts, cond_both, false≢true, le-leb, leb-true, lt-ltb, ltb-true, not-true, or_left, or_right, false_from_ne_true}
 use Rattle.std.proofs.lemmas.Fmt.{length-decimal-le}
 use Rattle.std.proofs.lemmas.List.{length-append, length-map}
 use Rattle.std.proofs.lemmas.List.Elements.{All-cons, All-nil}
@@ -13,7 +13,7 @@ use Rattle.qc_num.specs.Bounds.{lesser}
 use Rattle.qc_num.specs.Reading.{◌>>=◌, require}
 use Rattle.qc_num.proofs.BoundLemmas.{lesser_never}
 use Rattle.qc_num.proofs.ReadingLemmas.{same_ok}
-use Rattle.qc_close.specs.Model.{Decision, Direction, InstanceView, Valid, cranes_of, Leaf, are_tasks, chain, is_ring, leaf_value, packed, reach, ring, work, work_over, crane_numbers, early, Fits, IsSettled, assigned, forced, least, most_branchings, most_tasks, pack}
+use Rattle.qc_close.specs.Model.{Decision, Direction, InstanceView, Valid, cranes_of, Leaf, are_tasks, chain, is_ring, leaf_value, packed, reach, ring, work, work_over, crane_numbers, early, Fits, IsSettled, assigned, forced, least, most_branchings, most_tasks, pack, is_settled}
 use Rattle.qc_model.specs.declared.decision.Decision.TheVariants as decide
 use Rattle.qc_model.proofs.NodeLemmas.{conflict_inside}
 use Rattle.qc_close.proofs.PackBounds.{packed_listed, some_packed}
@@ -25,9 +25,8 @@ use Rattle.qc_tree.specs.Trees as trees
 use Rattle.qc_tree.proofs.OrderLemmas.{may_conflict}
 use Rattle.qc_tree.specs.declared.fault.TreeKind.{TreeKind}
 use Rattle.qc_tree.specs.declared.fault.TreeKind.TheVariants as kind
-use Rattle.qc_replay.specs.Walk.{Coming, Reading, at_node, branched_to, came, ended_by, from_file, is_number, is_settled, may_order, no_order, node, on_pair, on_task}
+use Rattle.qc_replay.specs.Walk.{Coming, Reading, at_node, branched_to, came, ended_by, from_file, is_number, may_order, no_order, node, on_pair, on_task}
 use Rattle.qc_replay.proofs.LeafBounds.{leaf_few}
-use Rattle.qc_replay.proofs.NodeFacts.{unsettled_false}
 use Rattle.qc_replay.proofs.OrderFacts.{may_of, test_of}
 
 -- ---- steps that came through
@@ -77,12 +76,7 @@ none_of (Some n) t = absurd (false≢true t)
 
 unsettled : (inst : InstanceView) (ds : List Decision) (i j : ℕ) → not (is_settled inst ds i j) ≡ true
     → ¬ IsSettled inst ds i j
-unsettled inst ds i j t settled =
-    let no = not-true (is_settled inst ds i j) t in
-    elim settled [
-      | inl s ↦ false≢true (sym no ∙ or_left (is_some (forced inst ds i j)) (is_some (forced inst ds j i)) s)
-      | inr s ↦ false≢true (sym no ∙ or_right (is_some (forced inst ds i j)) (is_some (forced inst ds j i)) s)
-    ]
+unsettled inst ds i j t settled = false≢true (sym (not-true (is_settled inst ds i j) t) ∙ settled)
 
 -- ---- a reading behind a node's line
 
@@ -445,6 +439,6 @@ module _ (inst : InstanceView) (valid : Valid inst) (ds : List Decision) where
         (task_children inst d ds more n b j) (omega (arith, few)))
     accepts (trees.on_pair i j) h few =
         let range = inside_of i j h.0 in
-        rw (number_of i range.0, number_of j range.1, back_one i, back_one j, test_of inst ds i j valid inst.turn h.0, unsettled_false inst ds i j h.1)
+        rw (number_of i range.0, number_of j range.1, back_one i, back_one j, test_of inst ds i j valid inst.turn h.0, false_from_ne_true (is_settled inst ds i j) h.1)
         (branched (trees.on_pair i j) (node d (decide.Order i j ∷ ds) ∷ node d (decide.Order j i ∷ ds) ∷ []) refl refl refl
         (omega (arith, few)))

@@ -197,9 +197,9 @@ bound_short Never h = omega arith
 bound_short (Least n) h =
     omega (arith, length-append (decimal n) [], length-decimal-le 15 n (omega arith) h (omega (arith, h)))
 
-end_short : (b : ℕ) (x : Bound) → b < 10 ^ 6 → IsValue x → length (line_text (line.End b x) []) < most_bytes
+end_short : (b : ℕ) (x : Bound) → b < 10 ^ 7 → IsValue x → length (line_text (line.End b x) []) < most_bytes
 end_short b x small h =
-    let digits = length-decimal-le 6 b (omega arith) small (omega (arith, small)) in
+    let digits = length-decimal-le 7 b (omega arith) small (omega (arith, small)) in
     omega (arith, digits, bound_short x h, length-append (decimal b) (bound_field x))
 
 -- ---- a tree
@@ -233,7 +233,7 @@ module _ (inst : InstanceView) (valid : Valid inst) (tree : Tree) (is_tree : IsT
 
   end_read : goes_on (reading (end ∷ []) (tree_branchings tree) (tree_value inst tree)) (last ++ [])
   end_read =
-      let few : tree_branchings tree < 10 ^ 6 = omega (arith, is_tree.few) in
+      let few : tree_branchings tree < 10 ^ 7 = omega (arith, is_tree.few) in
       let r = reading (end ∷ []) (tree_branchings tree) (tree_value inst tree) in
       one_line inst read r (reading [] (tree_branchings tree) (tree_value inst tree)) end
       (line.End (tree_branchings tree) (tree_value inst tree)) [] [] refl (few, value_few) refl

@@ -50,7 +50,7 @@ pub record ReadsTree (before after : View) (name : List ℕ) (result : Result Re
   pub missing : IsMissing before.files name → ¬ (result ≡ Err error.OutOfMemory) → result ≡ Err error.ReadFault
   pub read_fault : result ≡ Err error.ReadFault → ReadCause before after name
   pub reads : Reads before after (¬ (result ≡ Err error.ReadFault))
-  pub last : (fault : TreeFault) → result ≡ Err (error.Tree fault) → fault.line ≤ 800007
+  pub last : (fault : TreeFault) → result ≡ Err (error.Tree fault) → fault.line ≤ 8000007
 
 -- what is left begins with this line and its list
 pub record IsNext (before : Option (List ℕ)) (line : Line) (list : List ℕ) (after : Option (List ℕ)) : Type 0 where

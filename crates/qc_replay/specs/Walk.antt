@@ -5,7 +5,7 @@ use Rattle.qc_num.specs.declared.bound.Bound.{Bound}
 use Rattle.qc_num.specs.declared.bound.Bound.TheVariants.{Never}
 use Rattle.qc_num.specs.Bounds.{lesser, is_bound}
 use Rattle.qc_num.specs.Reading.{◌>>=◌, require, with_fault}
-use Rattle.qc_close.specs.Model.{Decision, Direction, Turn, InstanceView, chain, packed, ring, reach, work, leaf_value, crane_numbers, assigned, forced, most_branchings, seen, task_distance}
+use Rattle.qc_close.specs.Model.{Decision, Direction, Turn, InstanceView, chain, packed, ring, reach, work, leaf_value, crane_numbers, assigned, forced, most_branchings, seen, task_distance, is_apart, is_settled}
 use Rattle.qc_model.specs.declared.decision.Decision.TheVariants as decide
 use Rattle.qc_model.specs.declared.direction.Direction.TheVariants as way
 use Rattle.qc_model.specs.declared.turn.Turn.TheVariants as turn
@@ -66,14 +66,6 @@ is_number inst i = nat_lt 0 i && nat_le i (length inst.tasks)
 -- tasks as they are numbered from 0
 abbrev pub from_file : List ℕ → List ℕ
 from_file list = map (λ i. i - 1) list
-
--- the pair is one of the instance's apart pairs, the lower task first
-abbrev pub is_apart : InstanceView → ℕ → ℕ → Bool
-is_apart inst i j = list_any (λ pair. (pair.first == i) && (pair.second == j)) inst.apart
-
--- one of the two tasks is forced to start after the other
-abbrev pub is_settled : InstanceView → List Decision → ℕ → ℕ → Bool
-is_settled inst ds i j = is_some (forced inst ds i j) || is_some (forced inst ds j i)
 
 -- branching on a task: a node for each crane
 abbrev pub on_task : InstanceView → Direction → List Decision → Reading → ℕ → Result Reading TreeKind

@@ -1,6 +1,5 @@
 //! From when the tasks of a node can start, each by itself.
-ghost use Rattle.std.specs.Prelude.{◌≡◌, ◌↔◌, ◌+◌, ◌<◌, ◌≤◌, ◌∷◌, [], List, All, IfOk, IfSome, IsTrue, length, map, min, option_map};
-ghost use Rattle.std.specs.Option.{option_map_or};
+ghost use Rattle.std.specs.Prelude.{◌≡◌, ◌↔◌, ◌+◌, ◌<◌, ◌≤◌, ◌∷◌, [], List, All, IfOk, IfSome, IsTrue, length, map, option_map};
 ghost use Rattle.qc_dist.specs.Node.{IsOpen};
 ghost use Rattle.qc_close.specs.Model.{Decision, early, least_starts, HasStarts, head, least, most_distance, most_ready, most_start};
 ghost use Rattle.qc_replay.specs.Crewed.{WereOpen};
@@ -9,7 +8,7 @@ ghost use Rattle.qc_starts.specs.Seen.{IsReached};
 
 use qc_dist::{Decisions, in_reach};
 use qc_model::{Decision, Instance, Turn};
-use qc_num::{OutOfMemory, Tick};
+use qc_num::{OutOfMemory, Tick, lesser};
 use qc_starts::Starts;
 use std::alloc::Global;
 
@@ -19,14 +18,6 @@ use std::alloc::Global;
 pub(crate) struct EarlyStarts {
     starts: Starts,
     past: u32,
-}
-
-/// The earlier of a tick and those before it, if there were any.
-fn earlier(before: Option<Tick>, tick: Tick) -> Tick
-    ensures least { result ≡ option_map_or (λ other. min other tick) before tick }
-    ensures bound { result ≤ tick }
-{
-    before.map_or(tick, |other| other.min(tick))
 }
 
 /// Whether a decision puts no task out of its crane's reach.
@@ -101,7 +92,7 @@ impl EarlyStarts {
     {
         let mut least: Option<Tick> = None;
         for task in tasks {
-            least = Some(earlier(least, self.starts.start(*task)));
+            least = Some(lesser(least, self.starts.start(*task)));
         }
         least.unwrap_or(0)
     }
@@ -175,7 +166,7 @@ fn least_lead(node: &Decisions, tasks: &[u16]) -> Tick
 {
     let mut least: Option<Tick> = None;
     for task in tasks {
-        least = Some(earlier(least, node.lead(*task)));
+        least = Some(lesser(least, node.lead(*task)));
     }
     least.unwrap_or(0)
 }

@@ -11,7 +11,7 @@ use thiserror::Error;
 pub struct Replayed {
     /// No schedule that cranes of this turn may follow ends before this tick; `Never`: there is none.
     pub bound: Bound,
-    /// How many branchings the tree has, at most 100,000.
+    /// How many branchings the tree has, at most 1,000,000.
     pub branched: u32,
 }
 

@@ -90,7 +90,7 @@ fn read_lines<S: Shelf>(
     ensures fault { (fault : TreeFault) → result ≡ Err (ReplayError.Tree fault)
         → Fails walk.old.inst 1 (start walk.old.inst) (prepend_known lines.old.reader (S.Sink.view shelf.old).rest) fault }
     ensures last { (fault : TreeFault) → result ≡ Err (ReplayError.Tree fault)
-        → fault.line ≤ 800007 }
+        → fault.line ≤ 8000007 }
     ensures reads { ReadsOn (S.Sink.view shelf.old) (S.Sink.view shelf.new)
         ReplayError.ReadFault result }
 {

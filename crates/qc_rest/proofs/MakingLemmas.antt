@@ -21,6 +21,7 @@ use Rattle.qc_rest.specs.declared.stand.Stand.{Stand}
 use Rattle.qc_rest.specs.Stands.{stand_of}
 use Rattle.qc_rest.proofs.KeptLemmas.{push_no, push_yes}
 use Rattle.qc_rest.proofs.RestLemmas.{holds_test, runs_since, test_holds}
+use Rattle.qc_model.proofs.NodeLemmas.{pair_listed}
 
 -- ---- numbers
 
@@ -97,7 +98,7 @@ pub before_low : (c : Course) → Valid c.inst → ArePairs c c.inst.before
 before_low c valid = low_pairs c c.inst.before valid.before.range
 
 pub apart_low : (c : Course) → Valid c.inst → ArePairs c c.inst.apart
-apart_low c valid = low_pairs c c.inst.apart (λ i j is. let r = valid.apart.range i j is in (omega (arith, r.0, r.1), r.1))
+apart_low c valid = low_pairs c c.inst.apart (λ i j is. let r = valid.apart.range i j (pair_listed i j c.inst.apart is) in (omega (arith, r.0, r.1), r.1))
 
 -- a crane at its place
 pub crane_is : (c : Course) (stands : List Stand) (places : ℕ → ℤ) (k : ℕ) (was made : Crane) {bay : ℤ} {ready : ℕ}

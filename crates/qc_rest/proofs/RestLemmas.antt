@@ -15,14 +15,14 @@ use Rattle.qc_num.proofs.Lists.{Contains-map}
 use Rattle.qc_model.specs.declared.pair.Pair.{Pair}
 use Rattle.qc_model.specs.declared.crane.Crane.{Crane}
 use Rattle.qc_model.specs.declared.task.Task.{Task}
-use Rattle.qc_model.specs.Instance.{InstanceView, IsBefore, Valid, crane, no_crane, no_task, pair_of, release_of, task}
+use Rattle.qc_model.specs.Instance.{InstanceView, IsBefore, Valid, crane, no_crane, no_task, pair_of, release_of, task, is_apart}
 use Rattle.qc_model.specs.Nodes.{greatest, is_before}
 use Rattle.qc_model.proofs.Extremes.{greatest_le, le_greatest}
-use Rattle.qc_model.proofs.NodeLemmas.{before_found}
+use Rattle.qc_model.proofs.NodeLemmas.{before_found, pair_listed}
 use Rattle.qc_rest.specs.Progress.{IsLeft, number_of}
 use Rattle.qc_rest.specs.declared.stand.Stand.{Stand}
 use Rattle.qc_rest.specs.Rest.{HoldsBack, IsCraneNow, IsExactRest, IsRest, IsTaskLeft}
-use Rattle.qc_rest.specs.RestOf.{are_left, crane_in, held_by, holds_back, is_apart, left_tasks, pairs_in, release_in, renumbered, rest_of, task_in}
+use Rattle.qc_rest.specs.RestOf.{are_left, crane_in, held_by, holds_back, left_tasks, pairs_in, release_in, renumbered, rest_of, task_in}
 use Rattle.qc_rest.specs.Stands.{CanBeAt, IsStand, stand_of}
 use Rattle.qc_rest.proofs.NumberLemmas.{count-cons, count_below, counts_differ, tally}
 
@@ -109,12 +109,6 @@ contains_of {X = X} p f (x ∷ xs) y has = elim (cases_Bool (p x)) [
 
 -- ---- tests
 
-paired_found : (pairs : List Pair) (i j : ℕ) → Contains pairs (pair_of i j) → list_any (λ pair. (pair.first == i) && (pair.second == j)) pairs ≡ true
-paired_found pairs i j has =
-    let itself = and_from (i == i) (j == j) (eq-eqb i i refl) (eq-eqb j j refl) in
-    let found = subst (λ (p : Pair). ((p.first == i) && (p.second == j)) ≡ true) (sym has.2) itself in
-    list_any_at (λ (pair : Pair). (pair.first == i) && (pair.second == j)) pairs has.0 (pair_of i j) has.1 found
-
 pub runs_since : (s : Stage) → is_running s ≡ true → (start : ℕ) × (s ≡ Running start)
 runs_since Waiting runs = absurd (false≢true runs)
 runs_since (Running start) runs = (start, refl)
@@ -130,9 +124,9 @@ module _ (c : Course) where
   holds_test i j holds = and_from (is_running (stage_of c i)) _ (ap is_running holds.runs) (by holds.first)
     where
       by : IsBefore c.inst i j ⊎ ArePaired c.inst i j → (is_before c.inst i j || (is_apart c.inst i j || is_apart c.inst j i)) ≡ true
-      by (inl is) = or_left (is_before c.inst i j) _ (paired_found c.inst.before i j is)
-      by (inr (inl is)) = or_right (is_before c.inst i j) _ (or_left (is_apart c.inst i j) _ (paired_found c.inst.apart i j is))
-      by (inr (inr is)) = or_right (is_before c.inst i j) _ (or_right (is_apart c.inst i j) _ (paired_found c.inst.apart j i is))
+      by (inl is) = or_left (is_before c.inst i j) _ (pair_listed i j c.inst.before is)
+      by (inr (inl is)) = or_right (is_before c.inst i j) _ (or_left (is_apart c.inst i j) _ is)
+      by (inr (inr is)) = or_right (is_before c.inst i j) _ (or_right (is_apart c.inst i j) _ is)
 
   pub test_holds : (i j : ℕ) → i < length c.inst.tasks → holds_back c i j ≡ true → HoldsBack c i j
   test_holds i j low t =
@@ -144,8 +138,8 @@ module _ (c : Course) where
       by t = elim (or_cases (is_before c.inst i j) _ t) [
         | inl e ↦ inl (before_found i j c.inst.before e)
         | inr e ↦ elim (or_cases (is_apart c.inst i j) (is_apart c.inst j i) e) [
-          | inl f ↦ inr (inl (before_found i j c.inst.apart f))
-          | inr f ↦ inr (inr (before_found j i c.inst.apart f))
+          | inl f ↦ inr (inl f)
+          | inr f ↦ inr (inr f)
         ]
       ]
 
@@ -255,7 +249,7 @@ module _ (c : Course) (over : ℕ → ℕ) (stands : List Stand) (places : ℕ �
       tasks = task_left;
       cranes = crane_now;
       before = both_left c.inst.before;
-      apart = both_left c.inst.apart;
+      apart = λ i j here there is. pair_listed _ _ rest.apart (both_left c.inst.apart i j here there (before_found i j c.inst.apart is));
     }
 
     pub rest_exact : IsExactRest c over stands places rest
@@ -265,5 +259,8 @@ module _ (c : Course) (over : ℕ → ℕ) (stands : List Stand) (places : ℕ �
       placed = λ k low. ap (λ (k : Crane). k.bay) (crane_is k low);
       ready = λ k low. ap (λ (k : Crane). k.ready) (crane_is k low);
       only_before = λ i j here there. pair_back c.inst.before i j valid.before.range here there;
-      only_apart = λ i j here there. pair_back c.inst.apart i j (λ a b is. let r = valid.apart.range a b is in (omega (arith, r.0, r.1), r.1)) here there;
+      only_apart = λ i j here there is.
+          pair_listed i j c.inst.apart (pair_back c.inst.apart i j
+          (λ a b at. let r = valid.apart.range a b (pair_listed a b c.inst.apart at) in (omega (arith, r.0, r.1), r.1)) here there
+          (before_found _ _ rest.apart is));
     }

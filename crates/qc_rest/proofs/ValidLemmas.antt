@@ -26,6 +26,7 @@ use Rattle.qc_rest.specs.Stands.{AreStands, stand_of}
 use Rattle.qc_rest.proofs.BegunLemmas.{runs_or_over}
 use Rattle.qc_rest.proofs.NumberLemmas.{count_rises, numbered}
 use Rattle.qc_rest.proofs.RestLemmas.{both_left, contains_of, crane_is, left_count, number_low, one_number, release_least, task_is, waits_there}
+use Rattle.qc_model.proofs.NodeLemmas.{before_found, pair_listed}
 
 -- ---- sums and lists
 
@@ -320,7 +321,7 @@ module _ (c : Course) (over : ℕ → ℕ) (stands : List Stand) (places : ℕ �
   }
 
   apart_tasks : AreTasks c.inst.apart
-  apart_tasks i j is = let r = valid.apart.range i j is in (omega (arith, r.0, r.1), r.1)
+  apart_tasks i j is = let r = valid.apart.range i j (pair_listed i j c.inst.apart is) in (omega (arith, r.0, r.1), r.1)
 
   apart_valid : HasValidApart rest
   apart_valid = record {
@@ -331,14 +332,14 @@ module _ (c : Course) (over : ℕ → ℕ) (stands : List Stand) (places : ℕ �
       count_by-le-length (are_left c) c.inst.apart,
       valid.apart.count,
     );
-    range = λ a b is. apart_range a b (pair_is c.inst.apart apart_tasks a b is);
+    range = λ a b is. apart_range a b (pair_is c.inst.apart apart_tasks a b (before_found a b rest.apart is));
     sorted = sorted_in c.inst.apart apart_tasks valid.apart.sorted;
   }
     where
       apart_range : (a b : ℕ) → IsPair c.inst.apart a b
           → (a < b) × (b < length rest.tasks) × ((task rest a).hatch ≢ (task rest b).hatch)
       apart_range a b is =
-          let r = valid.apart.range is.first is.second is.inside in (
+          let r = valid.apart.range is.first is.second (pair_listed is.first is.second c.inst.apart is.inside) in (
             omega (arith, is.first_is, is.second_is, rises is.first is.second is.here r.0),
             (low_pair c.inst.apart a b is).1,
             λ same. r.2 (

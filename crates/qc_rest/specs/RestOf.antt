@@ -5,7 +5,7 @@ use Rattle.qc_dispatch.specs.Course.{Course, is_running, is_waiting, stage_of}
 use Rattle.qc_model.specs.declared.crane.Crane.{Crane}
 use Rattle.qc_model.specs.declared.pair.Pair.{Pair}
 use Rattle.qc_model.specs.declared.task.Task.{Task}
-use Rattle.qc_model.specs.Instance.{InstanceView, crane, pair_of, release_of, task}
+use Rattle.qc_model.specs.Instance.{InstanceView, crane, is_apart, pair_of, release_of, task}
 use Rattle.qc_model.specs.Nodes.{greatest, is_before}
 use Rattle.qc_rest.specs.declared.stand.Stand.{Stand}
 use Rattle.qc_rest.specs.Progress.{number_of}
@@ -14,10 +14,6 @@ use Rattle.qc_rest.specs.Stands.{stand_of}
 -- the tasks that are left, in their order
 abbrev pub left_tasks : Course → List ℕ
 left_tasks c = filter (λ j. is_waiting (stage_of c j)) (range_with_len 0 (length c.inst.tasks))
-
--- tasks i and j, in this order, may not run at the same time
-abbrev pub is_apart : InstanceView → ℕ → ℕ → Bool
-is_apart inst i j = list_any (λ pair. (pair.first == i) && (pair.second == j)) inst.apart
 
 -- task i runs, and task j may not start before its end
 abbrev pub holds_back : Course → ℕ → ℕ → Bool

@@ -1,5 +1,5 @@
 -- What the files come to at the log, behind the steps that read the plan.
-use Rattle.std.proofs.Common.{◌≡◌, Bool, List, ℕ, Option, Result, Ok, Err, IfErr, IfOk, IsSome, refl, subst, inl, inr, ◌∙◌, arith}
+use Rattle.std.proofs.Common.{◌≡◌, List, ℕ, Option, Result, Ok, Err, IfErr, IfOk, IsSome, refl, subst, inl, inr, ◌∙◌, arith}
 use Rattle.qc_dispatch.specs.declared.fault.DispatchFault.{DispatchFault}
 use Rattle.qc_dispatch.specs.declared.follow.Followed.{Followed}
 use Rattle.qc_dispatch.specs.Following.{journal_of}
@@ -100,12 +100,12 @@ module _ {names : Names} {before mid after : View} {load : Load} (first : IsStep
       read_faults = omega (arith, first.read_faults, second.read_faults);
     }
 
-    pub log_followed : (given : Bool) (followed : Followed) → given ≡ load.cargo.ship.in_decimetres
-        → IsFollowed load.cargo.inst load.sched text (journal_of followed) → IsLoad load → Valid followed.dispatch.inst
-        → Keeps followed.dispatch → IsReadingOf names before after (Ok (reading.Worked (record { load = load; in_decimetres = given; followed = followed })))
-    log_followed given followed told is known valid keeps =
-        through (Ok (reading.Worked (record { load = load; in_decimetres = given; followed = followed })))
-        (record { due = first.ok.1; given = told; feasible = feasible; text = text; log = read; followed = is; known = known; valid = valid; keeps = keeps }) tt tt
+    pub log_followed : (followed : Followed) → IsFollowed load.cargo.inst load.sched text (journal_of followed) → IsLoad load
+        → Valid followed.dispatch.inst → Keeps followed.dispatch
+        → IsReadingOf names before after (Ok (reading.Worked (record { load = load; followed = followed })))
+    log_followed followed is known valid keeps =
+        through (Ok (reading.Worked (record { load = load; followed = followed })))
+        (record { due = first.ok.1; feasible = feasible; text = text; log = read; followed = is; known = known; valid = valid; keeps = keeps }) tt tt
 
     pub log_refused : IsSome names.log → (fault : DispatchFault) → IsFaulty load.cargo.inst load.sched text fault
         → IsReadingOf names before after (Err (stop.Refused (refusal.BadLog (log.Dispatch fault))))

@@ -22,11 +22,9 @@ use Rattle.qc_sheet_command.specs.Due.{load_due}
 use Rattle.qc_sheet_command.specs.Listed.{IsLoad}
 use Rattle.qc_rest_command.specs.declared.answer.Worked.{Worked}
 
--- the plan is feasible, and its order was followed by the log, which was read whole; it is known whether the ship file
--- gives places
+-- the plan is feasible, and its order was followed by the log, which was read whole
 pub record IsWorked (names : Names) (files : Option Files) (worked : Worked) : Type 0 where
   pub due : ComesTo load_due names files (Ok worked.load)
-  pub given : worked.in_decimetres ≡ worked.load.cargo.ship.in_decimetres
   pub feasible : Feasible worked.load.cargo.inst worked.load.sched
   pub text : List ℕ
   pub log : ComesTo (input_due input.Log) names files (Ok text)

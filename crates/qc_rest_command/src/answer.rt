@@ -8,8 +8,6 @@ use qc_sheet_command::Load;
 /// A plan, and what happened by the log of its work.
 pub struct Worked {
     pub load: Load,
-    /// Whether the ship file gives places in decimetres.
-    pub in_decimetres: bool,
     pub followed: Followed,
 }
 
@@ -18,7 +16,6 @@ impl Drop for Worked {
     fn drop(self) {
         let Worked {
             load: _,
-            in_decimetres: _,
             followed: _,
         } = self;
     }

@@ -74,8 +74,7 @@ fn rest_by(alloc: Global, worked: &Worked) -> Result<Rest, Unprepared>
 
 /// What is left, and the text of its ship file: all memory that the command takes.
 fn prepare(alloc: Global, worked: Worked) -> Result<Prepared, Unprepared>
-    requires given { worked.in_decimetres ≡ worked.load.cargo.ship.in_decimetres }
-    requires followed { (text : List ℕ) × IsFollowed worked.load.cargo.inst worked.load.sched text (journal_of worked.followed) }
+    requires { (text : List ℕ) × IsFollowed worked.load.cargo.inst worked.load.sched text (journal_of worked.followed) }
     ensures prepared { IfOk result (IsPrepared worked) }
     ensures none { IfErr result (IsUnprepared worked) }
 {
@@ -87,13 +86,7 @@ fn prepare(alloc: Global, worked: Worked) -> Result<Prepared, Unprepared>
         }
     };
     let told = Renewed { worked, rest };
-    let in_decimetres = told.worked.in_decimetres;
-    match ship_text(
-        alloc,
-        &told.worked.load.cargo.ship,
-        in_decimetres,
-        &told.rest.instance,
-    ) {
+    match ship_text(alloc, &told.worked.load.cargo.ship, &told.rest.instance) {
         Ok(text) => Ok(Prepared { told, text }),
         Err(OutOfMemory) => {
             drop(told);

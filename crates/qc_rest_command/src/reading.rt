@@ -4,10 +4,10 @@ ghost use Rattle.qc_run.specs.Inputs.{names_of};
 ghost use Rattle.qc_rest_command.specs.Read.{IsReadingOf};
 
 use crate::answer::Worked;
-use crate::load::read_load;
 use qc_dispatch::{DispatchError, follow_log};
 use qc_io::Shelf;
 use qc_run::{Broken, Input, Inputs, LogFault, Refusal, Stop, broken_of, broken_rule, read_input};
+use qc_sheet_command::read_load;
 use std::alloc::Global;
 
 /// What the files come to that are read.
@@ -32,8 +32,7 @@ pub(crate) fn read_worked<S: Shelf>(
     ensures { IsReadingOf (names_of inputs.now)
         (S.Sink.view shelf.old) (S.Sink.view shelf.new) result }
 {
-    let mut in_decimetres = false;
-    let load = match read_load(alloc, inputs, &mut in_decimetres, shelf) {
+    let load = match read_load(alloc, inputs, shelf) {
         Ok(load) => load,
         Err(stop) => return Err(stop),
     };
@@ -46,11 +45,7 @@ pub(crate) fn read_worked<S: Shelf>(
         Err(stop) => return Err(stop),
     };
     match follow_log(alloc, inst, &load.sched, log.as_slice()) {
-        Ok(followed) => Ok(Reading::Worked(Worked {
-            load,
-            in_decimetres,
-            followed,
-        })),
+        Ok(followed) => Ok(Reading::Worked(Worked { load, followed })),
         Err(DispatchError::Fault(fault)) => {
             Err(Stop::Refused(Refusal::BadLog(LogFault::Dispatch(fault))))
         }

@@ -3,7 +3,6 @@ pub mod KeptLemmas
 pub mod NameBack
 pub mod ShipBack
 pub mod LeftLemmas
-pub mod PlacesLemmas
 pub mod TableLemmas
 pub mod TextLemmas
 pub mod ValueLemmas

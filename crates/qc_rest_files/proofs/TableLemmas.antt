@@ -46,8 +46,8 @@ module _ (ship : ShipView) (rest : InstanceView) where
   with_all true = refl
   with_all false = refl
 
-  pub all_put : (b : Bool) (m0 m1 m2 m3 m4 m5 : Members) → b ≡ ship.in_decimetres → m0 ≡ no_members → m1 ≡ timed m0 → m2 ≡ ordered m1
-      → m3 ≡ spaced b m2 → m4 ≡ listed m3 → m5 ≡ craned m4 → m5 ≡ ship_table (rest_ship ship rest)
-  all_put b m0 m1 m2 m3 m4 m5 is e0 e1 e2 e3 e4 e5 =
-      e5 ∙ ap craned (e4 ∙ ap listed (e3 ∙ ap (spaced b) (e2 ∙ ap ordered (e1 ∙ ap timed e0))))
-      ∙ with_all b ∙ ap (λ (d : Bool). table_with d (rest_ship ship rest)) is
+  pub all_put : (m0 m1 m2 m3 m4 m5 : Members) → m0 ≡ no_members → m1 ≡ timed m0 → m2 ≡ ordered m1
+      → m3 ≡ spaced ship.in_decimetres m2 → m4 ≡ listed m3 → m5 ≡ craned m4 → m5 ≡ ship_table (rest_ship ship rest)
+  all_put m0 m1 m2 m3 m4 m5 e0 e1 e2 e3 e4 e5 =
+      e5 ∙ ap craned (e4 ∙ ap listed (e3 ∙ ap (spaced ship.in_decimetres) (e2 ∙ ap ordered (e1 ∙ ap timed e0))))
+      ∙ with_all ship.in_decimetres

@@ -9,8 +9,8 @@ ghost use Rattle.qc_model.specs.Instance.{crane};
 ghost use Rattle.qc_model.specs.Names.{is_name};
 ghost use Rattle.qc_rest_files.specs.ShipTable.{crane_value, hatch_at, number};
 
-use crate::table::put;
 use crate::values::number_value;
+use qc_make::put;
 use qc_model::{Crane, Instance, MOST_HATCHES};
 use qc_num::{Bay, OutOfMemory};
 use std::alloc::Global;

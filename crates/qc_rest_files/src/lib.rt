@@ -9,11 +9,8 @@ mod cranes;
 mod laws;
 mod list;
 mod names;
-mod places;
 mod ship;
-mod table;
 mod values;
 
 pub use list::write_stow;
-pub use places::gives_places;
 pub use ship::ship_text;

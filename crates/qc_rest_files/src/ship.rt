@@ -15,8 +15,8 @@ ghost use Rattle.std.specs.List.{filter};
 
 use crate::cranes::crane_values;
 use crate::names::{before_values, release_values};
-use crate::table::put;
 use crate::values::{apart_values, number_value, number_values};
+use qc_make::put;
 use qc_model::Instance;
 use qc_num::{Bytes, OutOfMemory, Tick};
 use qc_ship::Ship;
@@ -88,18 +88,13 @@ fn margin_value(ship: &Ship) -> Value
 }
 
 /// Puts the distance of cranes at its key, and the places of the hatches where the file gives them.
-fn put_distance(
-    alloc: Global,
-    table: &mut Table,
-    ship: &Ship,
-    in_decimetres: bool,
-) -> Result<(), OutOfMemory>
-    ensures { OnOk result (table_view table.new ≡ if in_decimetres
+fn put_distance(alloc: Global, table: &mut Table, ship: &Ship) -> Result<(), OutOfMemory>
+    ensures { OnOk result (table_view table.new ≡ if ship.now.in_decimetres
         then with_member (codes "places") (array_of number ship.now.places)
         (with_member (codes "clear") (number ship.now.gap) (table_view table.old))
         else with_member (codes "margin") (number (ship.now.gap - 1)) (table_view table.old)) }
 {
-    if in_decimetres {
+    if ship.in_decimetres() {
         put(alloc, table, "clear", clear_value(ship))?;
         put_numbers(alloc, table, "places", ship.places())
     } else {
@@ -146,13 +141,7 @@ fn put_cranes(
 }
 
 /// The table of the ship file of what is left.
-fn ship_table(
-    alloc: Global,
-    ship: &Ship,
-    in_decimetres: bool,
-    rest: &Instance,
-) -> Result<Table, OutOfMemory>
-    requires { in_decimetres ≡ ship.now.in_decimetres }
+fn ship_table(alloc: Global, ship: &Ship, rest: &Instance) -> Result<Table, OutOfMemory>
     ensures table { IfOk result (λ t. table_view t ≡ ship_table (rest_ship ship.now rest.now)) }
     ensures names { IfOk result (λ _. (k : ℕ) → k < length rest.now.cranes
         → IsTrue (is_name (crane rest.now k).name)) }
@@ -160,7 +149,7 @@ fn ship_table(
     let mut table = Table::new(alloc);
     put_times(alloc, &mut table, ship)?;
     put_restows(alloc, &mut table, ship)?;
-    put_distance(alloc, &mut table, ship, in_decimetres)?;
+    put_distance(alloc, &mut table, ship)?;
     put_lists(alloc, &mut table, ship, rest)?;
     put_cranes(alloc, &mut table, ship, rest)?;
     Ok(table)
@@ -169,18 +158,12 @@ fn ship_table(
 /// The ship file of what is left: that of the ship, with the cranes of the instance, its tasks' releases, and those of the
 /// planner's pairs of which both tasks are left. All memory for the file is taken here. Where that ship keeps the limits of
 /// ships, the text reads as it.
-pub fn ship_text(
-    alloc: Global,
-    ship: &Ship,
-    in_decimetres: bool,
-    rest: &Instance,
-) -> Result<Bytes, OutOfMemory>
-    requires { in_decimetres ≡ ship.now.in_decimetres }
+pub fn ship_text(alloc: Global, ship: &Ship, rest: &Instance) -> Result<Bytes, OutOfMemory>
     ensures text { IfOk result (IsDocumentText false (ship_table (rest_ship ship.now rest.now))) }
     ensures reads { IfOk result (λ bytes. IsShip (rest_ship ship.now rest.now)
         → ship_file bytes ≡ Ok (rest_ship ship.now rest.now)) }
 {
-    let table = ship_table(alloc, ship, in_decimetres, rest)?;
+    let table = ship_table(alloc, ship, rest)?;
     match toml::table_to_string(alloc, &table) {
         Ok(text) => Ok(Bytes::of(text.into_bytes())),
         Err(_) => Err(OutOfMemory),

@@ -5,4 +5,3 @@ pub mod ReportLemmas
 pub mod RuleLemmas
 pub mod ToldLemmas
 pub mod AccountLemmas
-pub mod MadeLemmas

@@ -67,7 +67,7 @@ input_text input.Departure = codes "departure"
 input_text input.Past = codes "past"
 
 abbrev pub usage_text : List ℕ
-usage_text = codes "Usage\nqc plan SHIP STOW PLAN TREE [--nodes N] [--from OWN]\nqc check SHIP STOW PLAN TREE\nqc tasks SHIP STOW\nqc show SHIP STOW PLAN\nqc make NUMBER HATCHES CRANES\nqc free SHIP STOW PLAN TREE [--nodes N] [--from OWN]\nqc freecheck SHIP STOW PLAN TREE\nqc sheet SHIP STOW PLAN\nqc dispatch SHIP STOW PLAN LOG\nqc watch SHIP LOG\nqc picture SHIP STOW PLAN\nqc report SHIP STOW PLAN\nqc moves ARRIVAL DEPARTURE STOW\nqc odds SHIP STOW PLAN PAST [--runs N] [--seed S] [--by T]\n"
+usage_text = codes "Usage\nqc plan SHIP STOW PLAN TREE [--nodes N] [--from OWN]\nqc check SHIP STOW PLAN TREE\nqc tasks SHIP STOW\nqc show SHIP STOW PLAN\nqc make NUMBER HATCHES CRANES\nqc free SHIP STOW PLAN TREE [--nodes N] [--from OWN]\nqc freecheck SHIP STOW PLAN TREE\nqc sheet SHIP STOW PLAN\nqc dispatch SHIP STOW PLAN LOG\nqc watch SHIP LOG\nqc picture SHIP STOW PLAN\nqc report SHIP STOW PLAN\nqc moves ARRIVAL DEPARTURE STOW\nqc odds SHIP STOW PLAN PAST [--runs N] [--seed S] [--by T]\nqc rest SHIP STOW PLAN LOG NEWSHIP NEWSTOW OWN\n"
 
 -- a line: the text and a line feed
 abbrev pub line : List ℕ → List ℕ

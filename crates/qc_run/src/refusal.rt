@@ -75,6 +75,7 @@ qc picture SHIP STOW PLAN
 qc report SHIP STOW PLAN
 qc moves ARRIVAL DEPARTURE STOW
 qc odds SHIP STOW PLAN PAST [--runs N] [--seed S] [--by T]
+qc rest SHIP STOW PLAN LOG NEWSHIP NEWSTOW OWN
 ";
 
 /// The line of a file that couldn't be read.

@@ -1,12 +1,12 @@
 -- The nodes that must still come, and the decisions that lead to them.
 use Rattle.std.proofs.Common.{◌≡◌, ℕ, ◌+◌, ◌-◌, ◌<◌, ◌≤◌, Bool, true, false, cond, List, [], ◌∷◌, ◌++◌, length, map, sym, ap, refl, subst, arith, None, Some, Option, IfSome}
-use Rattle.std.proofs.lemmas.Bool.{lt-ltb}
+use Rattle.std.proofs.lemmas.Bool.{lt-ltb, and_from}
 use Rattle.std.proofs.lemmas.List.{length-append, length-map}
 use Rattle.qc_num.specs.declared.bound.Bound.{Bound}
 use Rattle.qc_dist.specs.Children.{IsNextChild, behind, later}
 use Rattle.qc_dist.specs.Node.{IsOpen}
 use Rattle.qc_dist.proofs.ChildLemmas.{cranes_count, cranes_from}
-use Rattle.qc_close.specs.Model.{Decision, Assign, Order, IsClosable, no_starts, InstanceView, Valid, crane_numbers, HasStarts, IsInReach, most_cranes}
+use Rattle.qc_close.specs.Model.{Decision, Assign, Order, IsClosable, no_starts, InstanceView, Valid, crane_numbers, HasStarts, IsInReach, most_cranes, is_in_reach, reaches}
 use Rattle.qc_starts.specs.Seen.{HasNone}
 use Rattle.qc_model.proofs.NodeLemmas.{conflict_inside}
 use Rattle.qc_tree.specs.Trees.{children}
@@ -76,8 +76,9 @@ module _ (inst : InstanceView) where
 
   -- decisions that were made where they were open lie within reach
   pub made_in_reach : (ds : List Decision) → WereMade inst ds → IsInReach inst ds
-  made_in_reach [] made = tt
-  made_in_reach (Assign j k ∷ ds) made = (made.1, made_in_reach ds made.2)
+  made_in_reach [] made = refl
+  made_in_reach (Assign j k ∷ ds) made =
+      and_from (reaches inst j k) (is_in_reach inst ds) made.1 (made_in_reach ds made.2)
   made_in_reach (Order i j ∷ ds) made = made_in_reach ds made.2
 
   -- a node that isn't closed has starts

@@ -12,7 +12,7 @@ use Rattle.qc_close.specs.Model.{Decision, Assign, Order, Direction, Up, Down, P
 use Rattle.qc_model.proofs.Bounded.{last_end_le}
 use Rattle.qc_model.proofs.CompleteNodes.{agrees_with, ends_with, feasible_least, forced_ticks, goes_least}
 use Rattle.qc_model.proofs.MirrorLemmas.{seen_valid}
-use Rattle.qc_model.proofs.NodeLemmas.{assigned_is, ends_by, meets_by, start_at}
+use Rattle.qc_model.proofs.NodeLemmas.{assigned_is, ends_by, meets_by, start_at, settled_cases}
 use Rattle.qc_model.proofs.TurnLemmas.{by_feasible, goes_by}
 use Rattle.qc_model.proofs.SeenLemmas.{seen-crane_count, seen-crane_of, seen-ends, seen-start_of, seen-task_count}
 use Rattle.qc_starts.specs.Seen.{AreAssigned}
@@ -76,14 +76,16 @@ module _ (inst : InstanceView) (ds : List Decision) (v : Valid inst) (given : Ar
       by (Some k) some a b = a ∙ sym b
 
   same_order : (p : Pair) → Rises inst p → IsSettled inst ds p.first p.second → order_in inst one p ≡ order_in inst two p
-  same_order p r (inl some) =
+  same_order p r settled =
       let low : p.first < length inst.tasks = omega (arith, r.0, r.1) in
-      first_in inst v one p r (kept_order inst ds one one_meets p.first p.second low r.1 some)
-      ∙ sym (first_in inst v two p r (kept_order inst ds two two_meets p.first p.second low r.1 some))
-  same_order p r (inr some) =
-      let low : p.first < length inst.tasks = omega (arith, r.0, r.1) in
-      second_in inst v one p r (kept_order inst ds one one_meets p.second p.first r.1 low some)
-      ∙ sym (second_in inst v two p r (kept_order inst ds two two_meets p.second p.first r.1 low some))
+      elim (settled_cases inst ds p.first p.second settled) [
+        | inl some ↦
+            first_in inst v one p r (kept_order inst ds one one_meets p.first p.second low r.1 some)
+            ∙ sym (first_in inst v two p r (kept_order inst ds two two_meets p.first p.second low r.1 some))
+        | inr some ↦
+            second_in inst v one p r (kept_order inst ds one one_meets p.second p.first r.1 low some)
+            ∙ sym (second_in inst v two p r (kept_order inst ds two two_meets p.second p.first r.1 low some))
+      ]
 
   same_cranes : (a n : ℕ) → a + n ≤ length inst.tasks
       → map (λ j. Assign j (crane_of one j)) (range_with_len a n) ≡ map (λ j. Assign j (crane_of two j)) (range_with_len a n)
@@ -110,7 +112,7 @@ module _ (inst : InstanceView) (ds : List Decision) (v : Valid inst) (given : Ar
 -- ---- the tight form of a given schedule
 
 -- the incumbent is answered as it is seen
-shown_is : (home : InstanceView) (way : Direction) (end : ℕ) (kept : List Slot)
+pub shown_is : (home : InstanceView) (way : Direction) (end : ℕ) (kept : List Slot)
     → shown_best (length home.cranes) (Least end) way kept ≡ Some (seen_schedule home kept way)
 shown_is home Up end kept = refl
 shown_is home Down end kept = refl

@@ -1,6 +1,6 @@
 -- Which leaves are steps, out of reach, closed or given up, and the lines of steps.
 use Rattle.std.proofs.Common.{◌≡◌, ℕ, ◌+◌, ◌<◌, ◌≤◌, ◌⊎◌, inl, inr, Bool, true, false, not, List, [], ◌∷◌, ◌++◌, Result, Ok, Err, Option, None, Some, IfOk, IsSome, unwrap_or, refl, ap, sym, subst, ◌∙◌, arith, is_some}
-use Rattle.std.proofs.lemmas.Bool.{cond-true}
+use Rattle.std.proofs.lemmas.Bool.{cond-true, and_parts}
 use Rattle.std.specs.Prelude.{⊤}
 use Rattle.qc_io.specs.declared.writing.WriteFault.{WriteFault}
 use Rattle.qc_io.specs.Outside.{View}
@@ -17,7 +17,7 @@ use Rattle.qc_bounds.specs.Closed.{IsClosedBy, IsSpentBy}
 use Rattle.qc_bounds.proofs.ClosedLemmas.{never_out_of_reach, one_end}
 use Rattle.qc_dist.specs.Children.{behind, later}
 use Rattle.qc_dist.specs.Node.{Node}
-use Rattle.qc_close.specs.Model.{Decision, Assign, Order, Direction, IsClosable, IsWorkBound, complete, ends_late, no_starts, out_of_reach, work_late, InstanceView, Valid, Leaf, chain, is_out_of_reach, leaf_value, reach, HasStarts, IsComplete, IsInReach, IsNodeEnd, reaches, most_tasks, last_end}
+use Rattle.qc_close.specs.Model.{Decision, Assign, Order, Direction, IsClosable, IsWorkBound, complete, ends_late, no_starts, out_of_reach, work_late, InstanceView, Valid, Leaf, chain, is_out_of_reach, leaf_value, reach, HasStarts, IsComplete, IsInReach, IsNodeEnd, reaches, most_tasks, last_end, is_in_reach}
 use Rattle.qc_starts.specs.Seen.{IsReached, IsWhy}
 use Rattle.qc_tree.specs.Trees.{leaf_text, sign_text, sign_value}
 use Rattle.qc_tree.specs.Trees as signs
@@ -44,7 +44,7 @@ out_of inst ds (Assign j k) away = by_test (reaches inst j k) away
 out_of inst ds (Order i j) away = absurd (away tt)
 
 reached_in : (inst : InstanceView) (ds : List Decision) (d : Decision) → IsInReach inst (d ∷ ds) → IsReached inst d
-reached_in inst ds (Assign j k) h = h.0
+reached_in inst ds (Assign j k) h = (and_parts (reaches inst j k) (is_in_reach inst ds) h).0
 reached_in inst ds (Order i j) h = tt
 
 -- a child out of reach

@@ -17,4 +17,5 @@ pub mod RunLemmas
 pub mod PlaceLemmas
 pub mod OutlookLemmas
 pub mod OutcomeLemmas
-pub mod StoreLemmas
+pub mod RoundLemmas
+pub mod CourseLemmas

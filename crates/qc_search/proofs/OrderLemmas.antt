@@ -5,12 +5,12 @@ use Rattle.std.proofs.lemmas.List.{drop_all}
 use Rattle.qc_dist.specs.Node.{IsOpen}
 use Rattle.qc_close.specs.Model.{Decision, Order, Pair, Slot, Turn, OneWay, Free, GoesBy, InstanceView, Valid, pair_of, Agrees, AreLeast, Conflicts, Fits, HasStarts, IsComplete, IsInReach, IsSettled, assigned, reaches, IsClear, crane_of, end_of, start_of, starts}
 use Rattle.qc_model.proofs.CompleteNodes.{complete_where}
-use Rattle.qc_model.proofs.NodeLemmas.{T_true, assigned_is, conflict_turned, meets_by}
+use Rattle.qc_model.proofs.NodeLemmas.{T_true, assigned_is, conflict_turned, meets_by, settled_by, settled_cases, settled_turned}
 use Rattle.qc_model.proofs.TurnLemmas.{by_feasible}
 use Rattle.qc_starts.specs.Seen.{AreAssigned, HasNone, IsReached, first_of}
 use Rattle.qc_starts.specs.Tight.{order_in, ordered_pairs}
 use Rattle.qc_starts.proofs.Growth.{IsNoLess, forced_grows, ordered_here_is}
-use Rattle.qc_starts.proofs.KeptLemmas.{IsSettledPair, settled_at}
+use Rattle.qc_starts.proofs.KeptLemmas.{IsSettledPair, pairs_settled}
 use Rattle.qc_starts.proofs.OverlapLemmas.{complete_one_way}
 use Rattle.qc_search.specs.Progress.{AreOrdered}
 use Rattle.qc_search.proofs.DecidedLemmas.{order_agrees, some_is}
@@ -57,17 +57,15 @@ grows : (a b : Option ℕ) → IsNoLess a b → IsSome a → IsSome b
 grows None b more some = absurd (false≢true some)
 grows (Some m) b more some = ap is_some (more m refl).1
 
-swapped : (inst : InstanceView) (ds : List Decision) (i j : ℕ) → IsSettled inst ds j i → IsSettled inst ds i j
-swapped inst ds i j (inl some) = inr some
-swapped inst ds i j (inr some) = inl some
-
 turned : (inst : InstanceView) (ds : List Decision) (i j : ℕ) → ¬ IsSettled inst ds i j → ¬ IsSettled inst ds j i
-turned inst ds i j unsettled = λ settled. unsettled (swapped inst ds i j settled)
+turned inst ds i j unsettled = λ settled. unsettled (settled_turned inst ds j i settled)
 
 pub settled_more : (inst : InstanceView) (ds : List Decision) (d : Decision) → IsOpen inst ds d → (i j : ℕ)
     → IsSettled inst ds i j → IsSettled inst (d ∷ ds) i j
-settled_more inst ds d is_open i j (inl some) = inl (grows _ _ (forced_grows inst ds d is_open i j) some)
-settled_more inst ds d is_open i j (inr some) = inr (grows _ _ (forced_grows inst ds d is_open j i) some)
+settled_more inst ds d is_open i j settled = elim (settled_cases inst ds i j settled) [
+  | inl some ↦ settled_by inst (d ∷ ds) i j (inl (grows _ _ (forced_grows inst ds d is_open i j) some))
+  | inr some ↦ settled_by inst (d ∷ ds) i j (inr (grows _ _ (forced_grows inst ds d is_open j i) some))
+]
 
 module _ (inst : InstanceView) (sched : List Slot) (p : Pair) (ds : List Decision) where
   abbrev order : Decision
@@ -94,8 +92,10 @@ module _ (inst : InstanceView) (sched : List Slot) (p : Pair) (ds : List Decisio
   order_settles unsettled =
       cond_both (nat_le (end_of inst sched p.first) (start_of sched p.second)) (Order p.first p.second)
       (Order p.second p.first) (λ (d : Decision). IsSettledPair inst (d ∷ ds) p)
-      (λ _. inl (ap is_some (ordered_here_is inst ds p.first p.second unsettled).1))
-      (λ _. inr (ap is_some (ordered_here_is inst ds p.second p.first (turned inst ds p.first p.second unsettled)).1))
+      (λ _. settled_by inst (Order p.first p.second ∷ ds) p.first p.second
+      (inl (ap is_some (ordered_here_is inst ds p.first p.second unsettled).1)))
+      (λ _. settled_by inst (Order p.second p.first ∷ ds) p.first p.second
+      (inr (ap is_some (ordered_here_is inst ds p.second p.first (turned inst ds p.first p.second unsettled)).1)))
 
   pub order_agreed : Valid inst → GoesBy inst.turn inst sched → Conflicts inst ds p.first p.second → Agrees inst ds sched
       → Agrees inst (order ∷ ds) sched
@@ -138,7 +138,7 @@ module _ (inst : InstanceView) (v : Valid inst) (ds : List Decision) (sched : Li
       settled : (i j : ℕ) → Conflicts inst ds i j → IsSettled inst ds i j
       settled i j conflict = elim (conflict_listed inst v sched ds has i j conflict) [
         | inl c ↦ ordered (pair_of i j) c
-        | inr c ↦ swapped inst ds i j (ordered (pair_of j i) c)
+        | inr c ↦ settled_turned inst ds j i (ordered (pair_of j i) c)
       ]
 
       by_turn : (turn : Turn) → inst.turn ≡ turn
@@ -152,4 +152,4 @@ module _ (inst : InstanceView) (v : Valid inst) (ds : List Decision) (sched : Li
 pub all_settled : (inst : InstanceView) (ds : List Decision) → inst.turn ≡ OneWay → AreAssigned inst ds
     → ((k : ℕ) → k < length inst.apart → IsSettledPair inst ds (get_or inst.apart k (pair_of 0 0))) → IsComplete inst ds
 all_settled inst ds one given each =
-    complete_one_way inst ds one given (λ i j a. settled_at inst ds i j a (each a.0 a.1))
+    complete_one_way inst ds one given (pairs_settled inst ds each)

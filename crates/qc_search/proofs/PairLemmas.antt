@@ -5,8 +5,8 @@ use Rattle.std.proofs.lemmas.List.Elements.{All-append, All-contains, All-filter
 use Rattle.std.proofs.lemmas.List.Folds.{list_any_at}
 use Rattle.std.specs.List.{AllByRecursion, flat_map, list_any, range_with_len}
 use Rattle.qc_num.proofs.Lists.{Contains-map}
-use Rattle.qc_close.specs.Model.{Decision, Pair, Slot, Turn, OneWay, Free, GoesBy, InstanceView, IsApart, Valid, pair_of, Conflicts, assigned, Feasible, IsClear, crane_of, slot_distance, task_distance}
-use Rattle.qc_model.proofs.NodeLemmas.{before_found, conflict_differs, conflict_inside, conflict_turned, one_way_apart}
+use Rattle.qc_close.specs.Model.{Decision, Pair, Slot, Turn, OneWay, Free, GoesBy, InstanceView, IsApart, Valid, pair_of, Conflicts, assigned, Feasible, IsClear, crane_of, slot_distance, task_distance, is_apart}
+use Rattle.qc_model.proofs.NodeLemmas.{before_found, conflict_differs, conflict_inside, conflict_turned, one_way_apart, pair_listed}
 use Rattle.qc_model.proofs.TurnLemmas.{by_feasible}
 use Rattle.qc_starts.specs.Tight.{conflicts_in, ordered_pairs, task_pairs}
 
@@ -77,7 +77,7 @@ in_pairs inst i j rising high =
 
 module _ (inst : InstanceView) (v : Valid inst) (sched : List Slot) where
   rise_by : (turn : Turn) (p : Pair) → Contains (ordered_pairs turn inst sched) p → Rises inst p
-  rise_by OneWay p c = let r = v.apart.range p.first p.second c in (r.0, r.1)
+  rise_by OneWay p c = let r = v.apart.range p.first p.second (pair_listed p.first p.second inst.apart c) in (r.0, r.1)
   rise_by Free p c =
       All-contains (Rises inst) (filter (conflicts_in inst sched) (task_pairs inst)) p
       (All-filter (conflicts_in inst sched) (Rises inst) (task_pairs inst) (all_rise inst)) c
@@ -86,7 +86,7 @@ module _ (inst : InstanceView) (v : Valid inst) (sched : List Slot) where
   ordered_rise p c = rise_by inst.turn p c
 
   abbrev listed : Pair → Bool
-  listed p = list_any (λ other. (other.first == p.first) && (other.second == p.second)) inst.apart
+  listed p = is_apart inst p.first p.second
 
   -- two tasks that conflict are apart, or one crane has both, or they would come too near
   conflict_cases : (p : Pair) → conflicts_in inst sched p ≡ true
@@ -96,7 +96,7 @@ module _ (inst : InstanceView) (v : Valid inst) (sched : List Slot) where
       elim (or_cases (listed p || eqb (crane_of sched p.first) (crane_of sched p.second))
       (nat_lt 0 (slot_distance inst sched p.first p.second)) t) [
         | inl first ↦ elim (or_cases (listed p) (eqb (crane_of sched p.first) (crane_of sched p.second)) first) [
-          | inl a ↦ inl (inl (before_found p.first p.second inst.apart a))
+          | inl a ↦ inl (inl a)
           | inr same ↦ inl (inr (eqb-true _ _ same))
         ]
         | inr near ↦ inr (ltb-true 0 (slot_distance inst sched p.first p.second) near)
@@ -104,11 +104,8 @@ module _ (inst : InstanceView) (v : Valid inst) (sched : List Slot) where
 
   in_apart : (i j : ℕ) → IsApart inst i j → conflicts_in inst sched (pair_of i j) ≡ true
   in_apart i j a =
-      let itself = and_from (eqb i i) (eqb j j) (eq-eqb i i refl) (eq-eqb j j refl) in
-      let found = subst (λ (p : Pair). ((p.first == i) && (p.second == j)) ≡ true) (sym a.2) itself in
       or_left (listed (pair_of i j) || eqb (crane_of sched i) (crane_of sched j)) (nat_lt 0 (slot_distance inst sched i j))
-      (or_left (listed (pair_of i j)) (eqb (crane_of sched i) (crane_of sched j))
-      (list_any_at (λ other. (other.first == i) && (other.second == j)) inst.apart a.0 (pair_of i j) a.1 found))
+      (or_left (listed (pair_of i j)) (eqb (crane_of sched i) (crane_of sched j)) a)
 
   in_same : (i j : ℕ) → crane_of sched i ≡ crane_of sched j → conflicts_in inst sched (pair_of i j) ≡ true
   in_same i j same =
@@ -129,7 +126,8 @@ module _ (inst : InstanceView) (v : Valid inst) (sched : List Slot) where
   clear_by : (turn : Turn) → Feasible inst sched → (p : Pair) → Contains (ordered_pairs turn inst sched) p
       → IsClear inst sched 0 p.first p.second
   clear_by OneWay f p c =
-      let r = v.apart.range p.first p.second c in f.apart p.first p.second (omega (arith, r.0, r.1)) r.1 c
+      let apart = pair_listed p.first p.second inst.apart c in
+      let r = v.apart.range p.first p.second apart in f.apart p.first p.second (omega (arith, r.0, r.1)) r.1 apart
   clear_by Free f p c =
       let r = rise_by Free p c in
       let low : p.first < length inst.tasks = omega (arith, r.0, r.1) in
@@ -178,7 +176,10 @@ module _ (inst : InstanceView) (v : Valid inst) (sched : List Slot) where
 
     lists_by : (turn : Turn) → inst.turn ≡ turn → (i j : ℕ) → Conflicts inst ds i j
         → Contains (ordered_pairs turn inst sched) (pair_of i j) ⊎ Contains (ordered_pairs turn inst sched) (pair_of j i)
-    lists_by OneWay one i j conflict = one_way_apart inst one ds i j conflict
+    lists_by OneWay one i j conflict = elim (one_way_apart inst one ds i j conflict) [
+      | inl apart ↦ inl (before_found i j inst.apart apart)
+      | inr apart ↦ inr (before_found j i inst.apart apart)
+    ]
     lists_by Free is i j conflict = elim (cases_lt i j) [
       | inl less ↦ inl (lists_free i j less conflict)
       | inr more ↦
@@ -198,7 +199,7 @@ pub listed_conflict : (inst : InstanceView) (v : Valid inst) (sched : List Slot)
 listed_conflict inst v sched ds cranes p c = by_turn inst.turn refl c
   where
     by_turn : (turn : Turn) → inst.turn ≡ turn → Contains (ordered_pairs turn inst sched) p → Conflicts inst ds p.first p.second
-    by_turn OneWay one has = inl (inl has)
+    by_turn OneWay one has = inl (inl (pair_listed p.first p.second inst.apart has))
     by_turn Free as_free has =
         let r = rise_by inst v sched Free p has in
         let low : p.first < length inst.tasks = omega (arith, r.0, r.1) in
@@ -237,8 +238,7 @@ same_pairs inst one two cranes = by_turn inst.turn
     same_test : (p : Pair) → Rises inst p → conflicts_in inst one p ≡ conflicts_in inst two p
     same_test p r =
         ap₂ (λ (x y : ℕ).
-        list_any (λ other. (other.first == p.first) && (other.second == p.second)) inst.apart
-        || (x == y) || nat_lt 0 (task_distance inst p.first x p.second y))
+        is_apart inst p.first p.second || (x == y) || nat_lt 0 (task_distance inst p.first x p.second y))
         (cranes p.first (omega (arith, r.0, r.1))) (cranes p.second r.1)
 
     by_turn : (turn : Turn) → ordered_pairs turn inst one ≡ ordered_pairs turn inst two

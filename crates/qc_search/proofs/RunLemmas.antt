@@ -22,7 +22,7 @@ use Rattle.qc_search.proofs.TightLemmas.{best_end_is, best_soon, kept_end}
 use Rattle.qc_search.proofs.TreeLemmas.{bound_is, branched_is}
 
 -- where no leaf shows an end before that of the incumbent, the outcome isn't Budget
-decided : (value met : Bound) → outcome value met ≡ Budget → IsAtMost met value → ⊥
+pub decided : (value met : Bound) → outcome value met ≡ Budget → IsAtMost met value → ⊥
 decided Never met is late = cc is
 decided (Least value) Never is late = late
 decided (Least value) (Least end) is late =
@@ -56,7 +56,7 @@ abbrev pub done_of : InstanceView → Bound → Progress → DoneView
 done_of home first now = done_with (length home.cranes) first now
 
 -- the end of the schedule that the search began with, as it is told
-told_end : (home : InstanceView) (first : Option (List Slot)) → bound_end (best_end home first) ≡ option_map (ends home) first
+pub told_end : (home : InstanceView) (first : Option (List Slot)) → bound_end (best_end home first) ≡ option_map (ends home) first
 told_end home None = refl
 told_end home (Some sched) = refl
 
@@ -88,10 +88,10 @@ module _ (home : InstanceView) (v : Valid home) {before after : View} (old now :
             (known_is ∙ ap Least (kept_end home first now _ w.progress end k)) w.progress.known;
       })
 
-  branched_told : now.branched ≡ tree_branchings w.tree
+  pub branched_told : now.branched ≡ tree_branchings w.tree
   branched_told = branched_is home first w.tree now w.progress
 
-  bound_told : now.bound ≡ tree_value home w.tree
+  pub bound_told : now.bound ≡ tree_value home w.tree
   bound_told = bound_is home first w.tree now w.progress
 
   -- under Budget all branchings are spent, or the aim is shown
@@ -100,12 +100,12 @@ module _ (home : InstanceView) (v : Valid home) {before after : View} (old now :
     where
       by_late : IsAtMost now.aim now.bound ⊎ IsAtMost now.incumbent_end now.bound
           → (now.branched ≡ old.limit) ⊎ IsAtMost old.aim now.bound
-      by_late (inl shown) = inr (subst (λ (a : Bound). IsAtMost a now.bound) w.aim shown)
+      by_late (inl shown) = inr (subst (λ (a : Bound). IsAtMost a now.bound) w.along.aim shown)
       by_late (inr late) = absurd (decided now.bound now.incumbent_end kind late)
 
       by_left : (now.branched ≡ now.limit) ⊎ (now.branched < now.limit)
           → (now.branched ≡ old.limit) ⊎ IsAtMost old.aim now.bound
-      by_left (inl all) = inl (all ∙ w.limit)
+      by_left (inl all) = inl (all ∙ w.along.limit)
       by_left (inr left) = by_late (at_most_one now.aim now.incumbent_end now.bound (w.progress.late left))
 
   -- what is told of that, of the tree
@@ -122,14 +122,14 @@ module _ (home : InstanceView) (v : Valid home) {before after : View} (old now :
       by_spent (inl all) = absurd (omega (arith, enough, all, branched_told, few_in_tree home v w.tree w.is_tree))
       by_spent (inr shown) = shown
 
-  run_is : IsRun home old.limit first old.aim w.tree (shown_best (length home.cranes) now.incumbent_end now.way now.incumbent)
+  pub run_is : IsRun home old.limit first old.aim w.tree (shown_best (length home.cranes) now.incumbent_end now.way now.incumbent)
       (outcome now.bound now.incumbent_end)
   run_is = record {
     tight = tight_is home first v old [] b.progress;
     is_tree = w.is_tree;
     under = b.progress.under;
     earned = record {
-      few = omega (arith, branched_told, w.progress.few, w.limit);
+      few = omega (arith, branched_told, w.progress.few, w.along.limit);
       each = all_earned home old.limit old.aim (tree_nodes w.tree) w.earned;
     };
     known = now.incumbent_end;

@@ -12,11 +12,12 @@ use Rattle.qc_num.specs.Bounds.{lesser}
 use Rattle.qc_close.specs.Model.{Up, Down, Turn, OneWay, Free, Slot, InstanceView, most_branchings, mirror}
 use Rattle.qc_tree.specs.declared.line.Line.TheVariants as line
 use Rattle.qc_tree.specs.Trees.{IsPart, IsSecond, IsTree, Node, Tree, branchings, lines_by, part_text, tree_branchings, tree_text, tree_value, whole_line}
+use Rattle.qc_model.proofs.SeenLemmas.{seen-task_count}
 use Rattle.qc_model.proofs.TurnLemmas.{two_turns}
 use Rattle.qc_tree.proofs.NodeLemmas.{all_given_up, none_branched}
 use Rattle.qc_search.specs.declared.progress.Progress.{Progress}
 use Rattle.qc_search.specs.Earned.{TreeNode, part_nodes, tree_nodes}
-use Rattle.qc_search.specs.Progress.{AreEarned, IsPartOf, IsProgress, WritesNodes, WritesTree}
+use Rattle.qc_search.specs.Progress.{AreEarned, IsAlong, IsPartOf, IsProgress, WritesNodes, WritesTree}
 use Rattle.qc_search.proofs.EarnedLemmas.{branched_in, branchings-append, earned_then, value-append, valued_in}
 use Rattle.qc_search.proofs.NodesLemmas.{all_up}
 
@@ -57,6 +58,19 @@ given : (result : Result ⊤ WriteFault) (P : Type 0) → P → OnOk result P
 given (Ok x) P p = p
 given (Err fault) P p = tt
 
+-- what is the same all along both parts
+along_then : (home : InstanceView) (old mid new : Progress) → IsAlong home old mid → IsAlong (mirror home) mid new
+    → IsAlong home old new
+along_then home old mid new up down =
+    let n = seen-task_count home Down in
+    record {
+      limit = down.limit ∙ up.limit;
+      aim = down.aim ∙ up.aim;
+      count = λ c. down.count (up.count c ∙ sym n) ∙ n;
+      room = λ r. down.room (up.room r);
+      soon = λ s. down.soon (up.soon s);
+    }
+
 -- an answer that is a fault
 pub by_fault : {before after : View} {home : InstanceView} {first : Option (List Slot)} {old new : Progress}
     (end : Progress) (result : Result ⊤ WriteFault) → IsErr result
@@ -68,8 +82,7 @@ by_fault end (Err fault) is w = record {
   writes = w.writes;
   earned = tt;
   progress = tt;
-  limit = tt;
-  aim = tt;
+  along = tt;
 }
 
 abbrev title : List ℕ
@@ -112,8 +125,7 @@ module _ (home : InstanceView) (first : Option (List Slot)) (before : View) (old
         (writes_cut before after front rest fault (Err fault) refl w);
     earned = tt;
     progress = tt;
-    limit = tt;
-    aim = tt;
+    along = tt;
   }
 
   -- ---- where cranes go one way
@@ -221,8 +233,6 @@ module _ (home : InstanceView) (first : Option (List Slot)) (before : View) (old
             let second = subst₂ (λ (n : ℕ) (a : Bound). AreEarned home n a up_nodes (part_nodes Down down.nodes)) up.comes.along.limit
             up.comes.along.aim told.0 in
             let all = earned_then home old.limit old.aim [] up_nodes (part_nodes Down down.nodes) up_told.0 second in
-            let limit : new.limit ≡ old.limit = down.comes.along.limit ∙ up.comes.along.limit in
-            let aim : new.aim ≡ old.aim = down.comes.along.aim ∙ up.comes.along.aim in
             let text : front ++ whole_line (line.End new.branched new.bound) [] ≡ tree_text home tree =
             ap₂ (λ (n : ℕ) (v : Bound). front ++ whole_line (line.End n v) []) (branched_is home first tree new told.1)
             (bound_is home first tree new told.1)
@@ -236,8 +246,8 @@ module _ (home : InstanceView) (first : Option (List Slot)) (before : View) (old
                   last);
               earned = given result (AreEarned home old.limit old.aim [] (tree_nodes tree)) all;
               progress = given result (IsProgress home first new (tree_nodes tree)) told.1;
-              limit = given result (new.limit ≡ old.limit) limit;
-              aim = given result (new.aim ≡ old.aim) aim;
+              along = given result (IsAlong home old new)
+                  (along_then home old mid new up.comes.along down.comes.along);
             }
 
   -- ---- where cranes go as they like
@@ -289,8 +299,6 @@ module _ (home : InstanceView) (first : Option (List Slot)) (before : View) (old
           let told = up.comes.earned home first [] (up_part home) begun in
           let all = subst (AreEarned home old.limit old.aim []) nodes told.0 in
           let now = subst (IsProgress home first new) nodes told.1 in
-          let limit : new.limit ≡ old.limit = up.comes.along.limit in
-          let aim : new.aim ≡ old.aim = up.comes.along.aim in
           let text : free_title ++ a ++ whole_line (line.End new.branched new.bound) [] ≡ tree_text home tree =
           ap₂ (λ (n : ℕ) (v : Bound). free_title ++ a ++ whole_line (line.End n v) []) (branched_is home first tree new now)
           (bound_is home first tree new now)
@@ -304,6 +312,5 @@ module _ (home : InstanceView) (first : Option (List Slot)) (before : View) (old
                 last);
             earned = given result (AreEarned home old.limit old.aim [] (tree_nodes tree)) all;
             progress = given result (IsProgress home first new (tree_nodes tree)) now;
-            limit = given result (new.limit ≡ old.limit) limit;
-            aim = given result (new.aim ≡ old.aim) aim;
+            along = given result (IsAlong home old new) up.comes.along;
           }

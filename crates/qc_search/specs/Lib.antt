@@ -1,5 +1,7 @@
 pub mod Earned
 pub mod Run
+pub mod Rounds
+pub mod Course
 pub mod Fields
 pub mod Walk
 pub mod Lines

@@ -141,8 +141,7 @@ pub record WritesTree
   pub writes : Writes before after (tree_text home tree) result
   pub earned : OnOk result (AreEarned home old.limit old.aim [] (tree_nodes tree))
   pub progress : OnOk result (IsProgress home first new (tree_nodes tree))
-  pub limit : OnOk result (new.limit ≡ old.limit)
-  pub aim : OnOk result (new.aim ≡ old.aim)
+  pub along : OnOk result (IsAlong home old new)
 
 -- the answer of a call that writes, without its value
 abbrev pub emptied : {A : Type 0} → Result A WriteFault → Result ⊤ WriteFault

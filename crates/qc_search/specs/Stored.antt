@@ -7,6 +7,7 @@ use Rattle.qc_close.specs.Model.{Slot, InstanceView}
 use Rattle.qc_search.specs.Run.{DoneView, SearchView}
 use Rattle.qc_tree.specs.Trees.{Tree, tree_text}
 use Rattle.qc_search.specs.Outcome.{IsOutcome}
+use Rattle.qc_search.specs.Rounds.{HasRun}
 
 -- the files with the tree's text in the file of this name
 abbrev pub with_tree : Files → List ℕ → InstanceView → Tree → Files
@@ -24,6 +25,14 @@ pub record IsTreeStored (search : SearchView) (name : List ℕ) (held : Files) (
   pub came : IsOutcome search tree done
   pub files : now ≡ Some (with_tree held name search.inst tree)
 
--- the files are as they were, or the tree of what the search came to is stored
+-- the search has run so far, and the file of this name holds the tree of its rounds that shows most
+pub record IsSearching (search : SearchView) (name : List ℕ) (held : Files) (now : Option Files) : Type 0 where
+  pub tree : Tree
+  pub best : Option (List Slot)
+  pub branched : ℕ
+  pub ran : HasRun search tree best branched
+  pub files : now ≡ Some (with_tree held name search.inst tree)
+
+-- the files are as they were, or the tree of the search so far is stored
 abbrev pub IsTreeLeft : SearchView → List ℕ → Files → Option Files → Type 0
-IsTreeLeft search name held now = (now ≡ Some held) ⊎ ((done : DoneView) × IsTreeStored search name held now done)
+IsTreeLeft search name held now = (now ≡ Some held) ⊎ IsSearching search name held now

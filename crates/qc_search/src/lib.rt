@@ -10,11 +10,13 @@
 //! It may aim at an end below what it begins with, at which nodes are then closed: its tree shows that in fewer
 //! branchings.
 //!
-//! `store_tree` and `store_best` put a search into files: its tree, and then the plan of the best
-//! schedule that it knows, each whole or the file as it was, and the plan read again as that
-//! schedule. With the word for how a search came out, and how much effort a first plan gets.
+//! `Search::store_tree` runs a search in rounds: one at the end of what it begins with, some that aim below the
+//! best end that is known, and one at that end, with all branchings of them together. The tree that shows most
+//! stands in its file; `store_best` makes the file of the best schedule's plan, which is read again as that
+//! schedule. Each file is whole or as it was. With the word for how a search came out, and how much effort a first plan gets.
 #![tactic(auto)]
 
+mod aims;
 mod best;
 mod branch;
 mod choice;
@@ -28,6 +30,8 @@ mod part;
 mod place;
 mod progress;
 mod roots;
+mod round;
+mod rounds;
 mod search;
 mod store;
 mod tree;
@@ -36,5 +40,5 @@ mod word;
 pub use done::{Done, Kind};
 pub use effort::EFFORT;
 pub use search::Search;
-pub use store::{store_best, store_tree};
+pub use store::store_best;
 pub use word::kind_word;

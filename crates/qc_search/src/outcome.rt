@@ -1,5 +1,6 @@
 //! How a search came out.
-ghost use Rattle.std.specs.Prelude.{◌≡◌};
+ghost use Rattle.std.specs.Prelude.{◌≡◌, IsTrue};
+ghost use Rattle.qc_num.specs.Bounds.{IsAtMost};
 ghost use Rattle.qc_search.specs.Progress.{bound_end};
 ghost use Rattle.qc_search.specs.Run.{outcome};
 
@@ -30,5 +31,17 @@ pub(crate) fn end_of(incumbent_end: Bound) -> Option<Tick>
     match incumbent_end {
         Bound::Never => None,
         Bound::Least(end) => Some(end),
+    }
+}
+
+/// Whether a bound is more than another one.
+pub(crate) fn is_more(bound: Bound, other: Bound) -> bool
+    ensures more { IsTrue result → IsAtMost other bound }
+    ensures no_more { ¬ IsTrue result → IsAtMost bound other }
+{
+    match (bound, other) {
+        (_, Bound::Never) => false,
+        (Bound::Never, Bound::Least(_)) => true,
+        (Bound::Least(bound), Bound::Least(other)) => other < bound,
     }
 }

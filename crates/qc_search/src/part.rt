@@ -77,7 +77,30 @@ fn advance<K: Sink>(
     }
 }
 
-/// Searches one part of a tree from its root on, and writes its lines.
+/// Goes through one part of a tree from its root on, and writes its lines.
+fn walk_part<K: Sink>(
+    node: &mut Node,
+    way: Direction,
+    progress: &mut Progress,
+    sink: &mut K,
+) -> Result<(), WriteFault>
+    requires root { node.old.decisions ≡ [] }
+    requires count { length progress.old.incumbent ≡ length node.old.inst.tasks }
+    requires room { HasRoom most_tasks progress.old.path }
+    requires few { progress.old.branched ≤ progress.old.limit }
+    ensures inst { node.new.inst ≡ node.old.inst }
+    ensures writes { WritesNodes [] (K.view sink.old) (K.view sink.new) node.old.inst way ([] ∷ []) []
+        progress.old progress.new result }
+{
+    loop {
+        let child = visit(node.starts(), node.crew(), way, progress, sink)?;
+        if !advance(node, child, progress, sink)? {
+            return Ok(());
+        }
+    }
+}
+
+/// Searches one part of a tree from its root on, writes its lines, and is back at the root then.
 pub(crate) fn search_part<K: Sink>(
     node: &mut Node,
     way: Direction,
@@ -88,13 +111,12 @@ pub(crate) fn search_part<K: Sink>(
     requires count { length progress.old.incumbent ≡ length node.old.inst.tasks }
     requires room { HasRoom most_tasks progress.old.path }
     requires few { progress.old.branched ≤ progress.old.limit }
-    ensures { WritesNodes [] (K.view sink.old) (K.view sink.new) node.old.inst way ([] ∷ []) []
+    ensures inst { node.new.inst ≡ node.old.inst }
+    ensures root { node.new.decisions ≡ [] }
+    ensures writes { WritesNodes [] (K.view sink.old) (K.view sink.new) node.old.inst way ([] ∷ []) []
         progress.old progress.new result }
 {
-    loop {
-        let child = visit(node.starts(), node.crew(), way, progress, sink)?;
-        if !advance(node, child, progress, sink)? {
-            return Ok(());
-        }
-    }
+    let written = walk_part(node, way, progress, sink);
+    node.leave();
+    written
 }

@@ -116,4 +116,12 @@ impl Node {
         }
         Some(newest)
     }
+
+    /// Takes back all decisions.
+    pub(crate) fn leave(&mut self)
+        ensures inst { self.new.inst ≡ self.old.inst }
+        ensures root { self.new.decisions ≡ [] }
+    {
+        while self.go_back().is_some() {}
+    }
 }

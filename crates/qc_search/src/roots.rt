@@ -107,34 +107,25 @@ impl Roots {
         }
     }
 
-    /// Searches the parts, and writes the lines of the tree.
+    /// Searches the parts, and writes the lines of the tree. The roots are as they were then.
     pub(crate) fn write<K: Sink>(
-        self,
+        &mut self,
         progress: &mut Progress,
         sink: &mut K,
     ) -> Result<(), WriteFault>
-        requires count { length progress.old.incumbent ≡ length self.tasks }
+        requires count { length progress.old.incumbent ≡ length self.old.tasks }
         requires room { HasRoom most_tasks progress.old.path }
-        requires begun { (first : Option (List Slot)) × IsProgress self first progress.old [] }
+        requires begun { (first : Option (List Slot)) × IsProgress self.old first progress.old [] }
         requires few { progress.old.limit ≤ most_branchings }
         requires soon { IsSoon progress.old.bound }
-        ensures { (first : Option (List Slot)) → IsProgress self first progress.old []
-            → WritesTree (K.view sink.old) (K.view sink.new) self first progress.old progress.new
+        ensures stays { self.new ≡ self.old }
+        ensures writes { (first : Option (List Slot)) → IsProgress self.old first progress.old []
+            → WritesTree (K.view sink.old) (K.view sink.new) self.old first progress.old progress.new
             result }
     {
-        let Roots { mut up, down } = self;
-        match down {
-            Some(mut down) => {
-                let written = write_both(&mut up, &mut down, progress, sink);
-                drop(down); // by name: proved faster
-                drop(up);
-                written
-            }
-            None => {
-                let written = write_one(&mut up, progress, sink);
-                drop(up); // by name: proved faster
-                written
-            }
+        match &mut self.down {
+            Some(down) => write_both(&mut self.up, down, progress, sink),
+            None => write_one(&mut self.up, progress, sink),
         }
     }
 }

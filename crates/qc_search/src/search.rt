@@ -1,5 +1,5 @@
-//! A search of the parts of a tree.
-ghost use Rattle.std.specs.Prelude.{◌≡◌, ◌<◌, ◌≤◌, ℕ, All, None, OnErr, IfOk, IfSome, option_map};
+//! A search of the parts of a tree, and the storing of it in rounds.
+ghost use Rattle.std.specs.Prelude.{◌≡◌, ◌-◌, ◌<◌, ◌≤◌, ℕ, All, None, OnErr, IfOk, IfSome, option_map};
 ghost use Rattle.qc_io.specs.Outside.{beside};
 ghost use Rattle.qc_io.specs.Writes.{Counts};
 ghost use Rattle.qc_close.specs.Model.{IsJudgeable, most_branchings, ends};
@@ -8,6 +8,7 @@ ghost use Rattle.qc_num.specs.Bounds.{lesser};
 ghost use Rattle.qc_search.specs.Progress.{bound_end, shown_best};
 ghost use Rattle.qc_search.specs.Run.{outcome, SearchView, IsCutOff, IsOffered, IsSearched, IsSound, search_from};
 ghost use Rattle.qc_search.specs.Fields.{AreOpened, search_of};
+ghost use Rattle.qc_search.specs.Stored.{IsTreeLeft, IsTreeStored};
 ghost use Rattle.qc_starts.specs.Tight.{IsSeenSo};
 ghost use Rattle.qc_tree.specs.Trees.{NoneEarlier};
 
@@ -17,7 +18,8 @@ use crate::given::{aim_at, offer};
 use crate::outcome::{end_of, outcome};
 use crate::progress::{Progress, first_progress};
 use crate::roots::Roots;
-use qc_io::{Outlook, Sink, WriteFault};
+use crate::rounds::{Course, run_rounds};
+use qc_io::{Outlook, Shelf, Sink, WriteFault};
 use qc_model::{Direction, Instance, MOST_TASKS, Schedule};
 use qc_num::{Bound, OutOfMemory, Path};
 use std::alloc::Global;
@@ -69,6 +71,26 @@ fn done_of(progress: Progress, first: Bound, cranes: u16) -> Done
         way: progress.way,
         best: shown_best(progress, cranes),
     }
+}
+
+/// What the rounds of a search came to that began with this end and so many branchings, for an instance with so many cranes.
+fn ran_done(progress: Progress, course: Course, nodes: u32, first: Bound, cranes: u16) -> Done
+    requires left { course.left ≤ nodes }
+    requires cranes { (end : ℕ) → progress.incumbent_end ≡ Least end
+        → All (λ slot. slot.crane < cranes) progress.incumbent }
+    ensures { result ≡ record {
+      kind = outcome course.shown progress.incumbent_end;
+      bound = course.shown;
+      branched = nodes - course.left;
+      given = bound_end first;
+      best = shown_best cranes progress.incumbent_end progress.way progress.incumbent;
+      way = progress.way;
+    } }
+{
+    let mut progress = progress;
+    progress.bound = course.shown;
+    progress.branched = nodes - course.left;
+    done_of(progress, first, cranes)
 }
 
 impl Search {
@@ -134,12 +156,44 @@ impl Search {
         ensures beside_stays { beside (K.view sink.new) ≡ beside (K.view sink.old) }
     {
         let Search {
-            roots,
+            mut roots,
             mut progress,
         } = self;
         let cranes = roots.instance().crane_count();
         let first = progress.incumbent_end;
-        roots.write(&mut progress, sink)?;
+        let written = roots.write(&mut progress, sink);
+        drop(roots); // by name: proved faster
+        let Ok(()) = written else {
+            drop(progress);
+            return Err(WriteFault);
+        };
         Ok(done_of(progress, first, cranes))
+    }
+
+    /// Runs the search in rounds, and makes the tree's file of what they write. Where an end is known, the file may be begun once
+    /// more when it returns.
+    pub fn store_tree<S: Shelf>(self, name: &str, shelf: &mut S) -> Result<Done, WriteFault>
+        ensures ok { IfOk result (λ done. IfSome (S.Sink.view shelf.old).files (λ held.
+            IsTreeStored self name.now held (S.Sink.view shelf.new).files done)) }
+        ensures err { OnErr result (IfSome (S.Sink.view shelf.old).files (λ held.
+            IsTreeLeft self name.now held (S.Sink.view shelf.new).files)) }
+        ensures sound { IfOk result (IsSound self) }
+        ensures unmade { IfOk result (λ done. done.best ≡ None → (S.Sink.view shelf.new).made ≡ None) }
+        ensures counts { Counts (S.Sink.view shelf.old).faults (S.Sink.view shelf.new).faults result }
+        ensures read_faults { (S.Sink.view shelf.new).read_faults ≡ (S.Sink.view shelf.old).read_faults }
+    {
+        let Search {
+            mut roots,
+            mut progress,
+        } = self;
+        let cranes = roots.instance().crane_count();
+        let (nodes, first) = (progress.limit, progress.incumbent_end);
+        let ran = run_rounds(&mut roots, &mut progress, name, shelf);
+        drop(roots); // by name: proved faster
+        let Ok(course) = ran else {
+            drop(progress);
+            return Err(WriteFault);
+        };
+        Ok(ran_done(progress, course, nodes, first, cranes))
     }
 }

@@ -1,39 +1,17 @@
-//! The storing of a search: its tree, and then the plan of the best schedule. Each file is whole or as it was.
-ghost use Rattle.std.specs.Prelude.{◌≡◌, ◌⊎◌, None, Some, IfOk, IfSome, OnOk, OnErr};
+//! The storing of the plan of the best schedule that a search knows. Its file is whole or as it was.
+ghost use Rattle.std.specs.Prelude.{◌≡◌, ◌⊎◌, None, Some, IfSome, OnOk, OnErr};
 ghost use Rattle.std.specs.FinMap.{insert};
 ghost use Rattle.qc_gantt.specs.Plan.{HasShortEnds};
 ghost use Rattle.qc_gantt.specs.PlanText.{plan_text};
 ghost use Rattle.qc_io.specs.Writes.{Counts};
 ghost use Rattle.qc_model.specs.Judge.{IsJudgeable};
-ghost use Rattle.qc_search.specs.Run.{IsSound};
 ghost use Rattle.qc_search.specs.Outcome.{IsReread};
-ghost use Rattle.qc_search.specs.Stored.{IsTreeLeft, IsTreeStored, with_plan};
+ghost use Rattle.qc_search.specs.Stored.{with_plan};
 
 use crate::done::Done;
-use crate::search::Search;
 use qc_gantt::write_plan;
 use qc_io::{Shelf, WriteFault};
 use qc_model::{Instance, Schedule};
-
-/// Runs the search, and makes the tree's file of what it writes.
-pub fn store_tree<S: Shelf>(search: Search, name: &str, shelf: &mut S) -> Result<Done, WriteFault>
-    ensures ok { IfOk result (λ done. IfSome (S.Sink.view shelf.old).files (λ held.
-        IsTreeStored search name.now held (S.Sink.view shelf.new).files done)) }
-    ensures err { OnErr result (IfSome (S.Sink.view shelf.old).files (λ held.
-        IsTreeLeft search name.now held (S.Sink.view shelf.new).files)) }
-    ensures sound { IfOk result (IsSound search) }
-    ensures unmade { OnOk result ((S.Sink.view shelf.new).made ≡ None) }
-    ensures counts { Counts (S.Sink.view shelf.old).faults (S.Sink.view shelf.new).faults result }
-    ensures read_faults { (S.Sink.view shelf.new).read_faults ≡ (S.Sink.view shelf.old).read_faults }
-{
-    let Ok(()) = shelf.create(name) else {
-        drop(search);
-        return Err(WriteFault);
-    };
-    let done = search.run(shelf)?;
-    shelf.finish()?;
-    Ok(done)
-}
 
 /// Makes the plan's file.
 fn store_plan<S: Shelf>(
@@ -74,7 +52,8 @@ pub fn store_best<S: Shelf>(
         ⊎ ((S.Sink.view shelf.new).files ≡ Some (with_plan held name.now inst.now done.now.best)))) }
     ensures reread { OnOk result (IfSome done.now.best (λ sched.
         HasShortEnds inst.now sched → IsReread inst.now sched)) }
-    ensures unmade { (S.Sink.view shelf.old).made ≡ None → OnOk result ((S.Sink.view shelf.new).made ≡ None) }
+    ensures unmade { (done.now.best ≡ None → (S.Sink.view shelf.old).made ≡ None)
+        → OnOk result ((S.Sink.view shelf.new).made ≡ None) }
     ensures counts { Counts (S.Sink.view shelf.old).faults (S.Sink.view shelf.new).faults result }
     ensures read_faults { (S.Sink.view shelf.new).read_faults ≡ (S.Sink.view shelf.old).read_faults }
 {

@@ -36,7 +36,9 @@ fn put_part<K: Sink>(
     requires count { length progress.old.incumbent ≡ length node.old.inst.tasks }
     requires room { HasRoom most_tasks progress.old.path }
     requires few { progress.old.branched ≤ progress.old.limit }
-    ensures { WritesNodes (whole_line (part_line way) []) (K.view sink.old) (K.view sink.new)
+    ensures inst { node.new.inst ≡ node.old.inst }
+    ensures root { node.new.decisions ≡ [] }
+    ensures writes { WritesNodes (whole_line (part_line way) []) (K.view sink.old) (K.view sink.new)
         node.old.inst way ([] ∷ []) [] progress.old progress.new result }
 {
     put_way(way, progress, sink)?;
@@ -73,7 +75,11 @@ pub(crate) fn write_both<K: Sink>(
     requires begun { (first : Option (List Slot)) × IsProgress up.old.inst first progress.old [] }
     requires few { progress.old.limit ≤ most_branchings }
     requires soon { IsSoon progress.old.bound }
-    ensures { (first : Option (List Slot)) → IsProgress up.old.inst first progress.old []
+    ensures up_inst { up.new.inst ≡ up.old.inst }
+    ensures up_root { up.new.decisions ≡ [] }
+    ensures down_inst { down.new.inst ≡ down.old.inst }
+    ensures down_root { down.new.decisions ≡ [] }
+    ensures writes { (first : Option (List Slot)) → IsProgress up.old.inst first progress.old []
         → WritesTree (K.view sink.old) (K.view sink.new) up.old.inst first progress.old progress.new
         result }
 {
@@ -96,7 +102,9 @@ pub(crate) fn write_one<K: Sink>(
     requires begun { (first : Option (List Slot)) × IsProgress up.old.inst first progress.old [] }
     requires few { progress.old.limit ≤ most_branchings }
     requires soon { IsSoon progress.old.bound }
-    ensures { (first : Option (List Slot)) → IsProgress up.old.inst first progress.old []
+    ensures inst { up.new.inst ≡ up.old.inst }
+    ensures root { up.new.decisions ≡ [] }
+    ensures writes { (first : Option (List Slot)) → IsProgress up.old.inst first progress.old []
         → WritesTree (K.view sink.old) (K.view sink.new) up.old.inst first progress.old progress.new
         result }
 {

@@ -125,6 +125,14 @@ impl Ship {
         self.places.as_slice()
     }
 
+    /// Whether the crane bays are decimetres along the rail: the file gives places.
+    pub fn in_decimetres(&self) -> bool
+        ensures given { result ≡ self.now.in_decimetres }
+        ensures ship { IsShip self.now }
+    {
+        self.in_decimetres
+    }
+
     /// The greatest crane bay of a hatch.
     pub fn bays(&self) -> Bay
         ensures bays { result ≡ pos (greatest_place self.now) }

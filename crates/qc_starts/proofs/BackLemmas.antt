@@ -4,7 +4,7 @@ use Rattle.std.proofs.lemmas.List.Elements.{All-take}
 use Rattle.qc_model.specs.declared.decision.Decision.{Decision}
 use Rattle.qc_model.specs.declared.decision.Decision.TheVariants.{Assign, Order}
 use Rattle.qc_model.specs.Instance.{InstanceView}
-use Rattle.qc_model.specs.Nodes.{IsInReach, order_pairs}
+use Rattle.qc_model.specs.Nodes.{IsInReach, order_pairs, is_in_reach, reaches}
 use Rattle.qc_starts.specs.declared.starts.Starts.TheInside.{Inside}
 use Rattle.qc_starts.specs.declared.step.Step.TheVariants.{Raised}
 use Rattle.qc_starts.specs.Fields.{AreNested, IsKept, IsStateOf}
@@ -14,10 +14,11 @@ use Rattle.qc_starts.proofs.KeptLemmas.{IsBackNode, nested_less}
 use Rattle.qc_arena.proofs.Written.{written_back_length}
 use Rattle.qc_arena.specs.declared.trail.Note.{Note}
 use Rattle.qc_arena.specs.Trails.{Notes, written_back}
+use Rattle.std.proofs.lemmas.Bool.{and_parts}
 
 in_reach_less : (inst : InstanceView) (ds : List Decision) → IsInReach inst ds → IsInReach inst (drop 1 ds)
 in_reach_less inst [] all = all
-in_reach_less inst (Assign j k ∷ ds) all = all.1
+in_reach_less inst (Assign j k ∷ ds) all = (and_parts (reaches inst j k) (is_in_reach inst ds) all).1
 in_reach_less inst (Order i j ∷ ds) all = all
 
 module _ (f : Inside) (is : IsKept f) (g : Inside) (mark : ℕ)

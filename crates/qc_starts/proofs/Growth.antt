@@ -15,6 +15,7 @@ use Rattle.qc_model.specs.Nodes.{IsSettled, Meets, assigned, crane_ticks, forced
 use Rattle.qc_model.specs.Ticks.{task_distance}
 use Rattle.qc_model.proofs.Extremes.{least_le}
 use Rattle.qc_starts.specs.Seen.{IsReached}
+use Rattle.qc_model.proofs.NodeLemmas.{settled_by}
 
 -- ---- numbers that may be missing
 
@@ -182,10 +183,10 @@ module _ (inst : InstanceView) (ds : List Decision) (g h : ℕ) where
 
   module _ (unsettled : ¬ IsSettled inst ds g h) where
     pub unsettled_from : forced inst ds g h ≡ None
-    unsettled_from = none_of (forced inst ds g h) (λ some. unsettled (inl some))
+    unsettled_from = none_of (forced inst ds g h) (λ some. unsettled (settled_by inst ds g h (inl some)))
 
     pub unsettled_to : forced inst ds h g ≡ None
-    unsettled_to = none_of (forced inst ds h g) (λ some. unsettled (inr some))
+    unsettled_to = none_of (forced inst ds h g) (λ some. unsettled (settled_by inst ds g h (inr some)))
 
     -- something is forced from the first to the second
     pub ordered_here_is : (len : ℕ) × (forced inst (Order g h ∷ ds) g h ≡ Some len)

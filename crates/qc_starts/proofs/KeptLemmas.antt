@@ -1,15 +1,15 @@
 -- What is kept for a node answers what is asked of it.
 use Rattle.std.proofs.Common.{◌≡◌, ◌≢◌, ℕ, zero, suc, ◌+◌, ◌-◌, ◌*◌, ◌<◌, ◌≤◌, inl, inr, List, [], ◌∷◌, ◌++◌, length, get_or, drop, take, Option, None, Some, refl, sym, ap, subst, subst₂, ◌∙◌, length-append, arith, slice_index}
-use Rattle.std.proofs.lemmas.Bool.{cases_eq}
+use Rattle.std.proofs.lemmas.Bool.{cases_eq, and_from}
 use Rattle.std.proofs.lemmas.List.{get_or_default, length-take-le}
 use Rattle.std.proofs.Math.Seq.{drop-append_seam, take-append_seam}
 use Rattle.qc_dist.specs.Node.{IsOpen, Node}
 use Rattle.qc_model.specs.declared.decision.Decision.{Decision}
 use Rattle.qc_model.specs.declared.decision.Decision.TheVariants.{Assign, Order}
 use Rattle.qc_model.specs.Instance.{InstanceView, IsApart, Valid, pair_of}
-use Rattle.qc_model.proofs.NodeLemmas.{conflict_inside}
+use Rattle.qc_model.proofs.NodeLemmas.{conflict_inside, before_found, pair_listed}
 use Rattle.qc_model.specs.declared.pair.Pair.{Pair}
-use Rattle.qc_model.specs.Nodes.{HasStarts, IsInReach, IsNodeEnd, IsSettled, Meets, forced, head}
+use Rattle.qc_model.specs.Nodes.{HasStarts, IsInReach, IsNodeEnd, IsSettled, Meets, forced, head, is_in_reach, reaches}
 use Rattle.qc_starts.specs.Arcs.{IsArc}
 use Rattle.qc_starts.specs.Fields.{AreNested, IsKept, IsStateOf, node_of}
 use Rattle.qc_starts.specs.declared.starts.Starts.TheInside.{Inside}
@@ -204,7 +204,7 @@ nested_less inst (d ∷ ds) mark marks notes cells are = (
 
 pub in_reach_more : (inst : InstanceView) (d : Decision) (ds : List Decision) → IsReached inst d → IsInReach inst ds
     → IsInReach inst (d ∷ ds)
-in_reach_more inst (Assign j k) ds reach all = (reach, all)
+in_reach_more inst (Assign j k) ds reach all = and_from (reaches inst j k) (is_in_reach inst ds) reach all
 in_reach_more inst (Order i j) ds reach all = all
 
 pub rooting_of : (net : NodeArcs) (inst : InstanceView) (d : Decision) (ds : List Decision) (root : ℕ)
@@ -369,12 +369,14 @@ drop_none m xs = let e : m - m ≡ 0 = omega arith in ap (λ (k : ℕ). drop k x
 
 pub apart_at : (inst : InstanceView) (k : ℕ) (p : Pair) → k < length inst.apart
     → IsApart inst (get_or inst.apart k p).first (get_or inst.apart k p).second
-apart_at inst k p low = (k, low, get_or_default inst.apart k _ p low)
+apart_at inst k p low = pair_listed _ _ inst.apart (k, low, get_or_default inst.apart k _ p low)
 
 abbrev pub IsSettledPair : InstanceView → List Decision → Pair → Type 0
 IsSettledPair inst ds pair = IsSettled inst ds pair.first pair.second
 
-pub settled_at : (inst : InstanceView) (ds : List Decision) (i j : ℕ) (a : IsApart inst i j)
-    → IsSettledPair inst ds (get_or inst.apart a.0 (pair_of 0 0)) → IsSettled inst ds i j
-settled_at inst ds i j a settled =
-    subst (IsSettledPair inst ds) (get_or_default inst.apart a.0 (pair_of 0 0) (pair_of i j) a.1 ∙ a.2) settled
+pub pairs_settled : (inst : InstanceView) (ds : List Decision)
+    → ((k : ℕ) → k < length inst.apart → IsSettledPair inst ds (get_or inst.apart k (pair_of 0 0)))
+    → (i j : ℕ) → IsApart inst i j → IsSettled inst ds i j
+pairs_settled inst ds settled i j apart =
+    let at = before_found i j inst.apart apart in
+    subst (IsSettledPair inst ds) (get_or_default inst.apart at.0 (pair_of 0 0) (pair_of i j) at.1 ∙ at.2) (settled at.0 at.1)

@@ -9,7 +9,7 @@ use Rattle.qc_model.specs.declared.direction.Direction.TheVariants.{Up}
 use Rattle.qc_model.specs.declared.schedule.Slot.{Slot}
 use Rattle.qc_model.specs.declared.turn.Turn.{Turn}
 use Rattle.qc_model.specs.declared.turn.Turn.TheVariants.{OneWay, Free}
-use Rattle.qc_model.specs.Instance.{InstanceView, pair_of}
+use Rattle.qc_model.specs.Instance.{InstanceView, pair_of, is_apart}
 use Rattle.qc_model.specs.Judge.{Goes, IsDirection}
 use Rattle.qc_model.specs.Work.{task_numbers}
 use Rattle.qc_model.specs.Nodes.{AreLeast}
@@ -19,7 +19,7 @@ use Rattle.qc_model.specs.Seen.{seen, seen_schedule}
 -- the two tasks conflict on their cranes: they are apart, or one crane has both, or the two would come too near
 abbrev pub conflicts_in : InstanceView → List Slot → Pair → Bool
 conflicts_in inst sched pair =
-    list_any (λ other. (other.first == pair.first) && (other.second == pair.second)) inst.apart
+    is_apart inst pair.first pair.second
     || (crane_of sched pair.first == crane_of sched pair.second)
     || nat_lt 0 (slot_distance inst sched pair.first pair.second)
 

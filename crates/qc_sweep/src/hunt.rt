@@ -9,7 +9,7 @@ use crate::going::Going;
 use crate::schedule::{better, end_of, schedule_of};
 use crate::sweep::sweep;
 use qc_model::{Direction, Instance};
-use qc_num::{OutOfMemory, Tick};
+use qc_num::{OutOfMemory, Tick, lesser};
 use qc_part::UpwardView;
 use std::alloc::Global;
 
@@ -86,14 +86,6 @@ impl Hunt {
             }
         }
     }
-
-    /// The lesser of a tick and the least end that a sweep found.
-    fn capped(&self, tick: Tick) -> Tick {
-        match self.cap {
-            Some(cap) => cap.min(tick),
-            None => tick,
-        }
-    }
 }
 
 /// Sweeps one part for all to end before the tick, where the effort that is left allows for so many
@@ -119,7 +111,7 @@ fn sweep_part(
     hunt.effort = hunt.effort.saturating_sub(swept.effort);
     match swept.found {
         Some(found) => {
-            hunt.cap = Some(hunt.capped(found.latest.min(end)));
+            hunt.cap = Some(lesser(hunt.cap, found.latest.min(end)));
             let plan = schedule_of(alloc, inst, way, part.instance(), found.cranes.as_slice())?;
             hunt.keep(way, found.cranes, end_of(inst, &plan));
             let best = hunt.best.take();
@@ -149,6 +141,6 @@ pub(crate) fn trial(
     ensures { IfSome hunt.new.best (IsFirstPlan inst.now) }
 {
     sweep_part(alloc, inst, &parts.up, Direction::Up, hunt, end, width)?;
-    let end = hunt.capped(end);
+    let end = lesser(hunt.cap, end);
     sweep_part(alloc, inst, &parts.down, Direction::Down, hunt, end, width)
 }

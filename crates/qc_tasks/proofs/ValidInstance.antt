@@ -28,6 +28,7 @@ use Rattle.qc_tasks.proofs.Lists.{any_each, each_from, each_weaker, each_flat_ma
 use Rattle.qc_tasks.proofs.TaskFacts.{Follows, IsTaskAt, all_follow, few_tasks, four_tasks, hatch_are, lower_hatch}
 use Rattle.qc_tasks.proofs.WorkFacts.{all_work}
 use Rattle.qc_tasks.proofs.PairFacts.{few_apart, pairs_have, pairs_pass, pairs_sorted}
+use Rattle.qc_model.proofs.NodeLemmas.{before_found}
 
 -- the last place is the greatest
 last_greatest : (ship : ShipView) → IsShip ship → (k d : ℕ) → k < length ship.places → get_or ship.places k d ≤ greatest_place ship
@@ -207,7 +208,8 @@ module _ (ship : ShipView) (is : IsShip ship) (rows : List Row) where
   valid_apart = record {
     count = omega (arith, few_apart (tasks_of ship rows) (four_tasks ship is rows) ship.apart, is.apart.count);
     range = λ i j has.
-        let p = pairs_pass (length (tasks_of ship rows)) (is_apart ship.apart (tasks_of ship rows)) i j has in
+        let p = pairs_pass (length (tasks_of ship rows)) (is_apart ship.apart (tasks_of ship rows)) i j
+        (before_found i j (instance_of ship rows).apart has) in
         let lt = apart_hatches (tasks_of ship rows) i j p.2 in
         (lower_first i j p.0 lt, p.1, (λ e. absurd (omega (arith, e, lt))));
     sorted = pairs_sorted (length (tasks_of ship rows)) (is_apart ship.apart (tasks_of ship rows));

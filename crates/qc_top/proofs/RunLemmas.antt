@@ -1,10 +1,7 @@
 -- What follows from a run's account of itself.
 use Rattle.std.proofs.Common.{◌≡◌, ◌≢◌, ◌≤◌, ◌⊎◌, Bool, true, false, cond, not, bytes_eq, ◌||◌, IfSome, ℕ, List, [], ◌∷◌, Option, None, Some, Result, Err, arith, refl, sym, ap, ◌∙◌, subst, inl, inr, codes}
-use Rattle.std.proofs.lemmas.Bool.{and_parts, false≢true}
-use Rattle.std.proofs.lemmas.Map.Text.{is_eq-slice_cmp}
-use Rattle.std.specs.List.{list_any}
-use Rattle.std.specs.Cmp.Lexicographic.{nat_list_cmp_total}
-use Rattle.std.specs.FinMap.{get, get-insert, insert}
+use Rattle.std.proofs.lemmas.Bool.{false≢true}
+use Rattle.std.specs.FinMap.{get}
 use Rattle.qc_gantt.specs.PlanText.{plan_text}
 use Rattle.qc_io.specs.Outside.{Files, View, beside}
 use Rattle.qc_log_commands.specs.declared.dispatching.Dispatching.{Dispatching}
@@ -31,7 +28,10 @@ use Rattle.qc_picture_command.specs.declared.answer.Printed.TheVariants as print
 use Rattle.qc_picture_command.specs.Planned.{printed_status}
 use Rattle.qc_plan_command.specs.Account.{IsLeft, IsPlanRun, both_files, tree_files}
 use Rattle.qc_plan_command.specs.Promises.{PlanPromises}
-use Rattle.qc_search.specs.Stored.{with_plan}
+use Rattle.qc_rest_command.specs.Account.{IsRestRun}
+use Rattle.qc_rest_command.specs.Promises.{RestPromises}
+use Rattle.qc_rest_command.proofs.RestLemmas.{rest_promises}
+use Rattle.qc_search.specs.Stored.{with_plan, with_tree}
 use Rattle.qc_plan_command.proofs.PlanLemmas.{plan_promises}
 use Rattle.qc_run.specs.declared.refusal.Refusal.TheVariants as refusal
 use Rattle.qc_run.specs.declared.refusal.Stop.{Stop}
@@ -40,7 +40,7 @@ use Rattle.qc_run.specs.declared.status.Status.{Status}
 use Rattle.qc_run.specs.declared.status.Status.TheVariants as status
 use Rattle.qc_run.specs.Account as account
 use Rattle.qc_run.specs.Account.{IsFound, IsReaderRun, IsReading}
-use Rattle.qc_run.specs.Inputs.{Moving, Names, Planning, Simulating}
+use Rattle.qc_run.specs.Inputs.{Moving, Names, Planning, Replanning, Simulating}
 use Rattle.qc_run.specs.Reports.{Printing, Prints, PrintsPart, Reports}
 use Rattle.qc_run.specs.Steps.{Stops}
 use Rattle.qc_run.specs.Texts.{stop_status, stop_text}
@@ -59,12 +59,13 @@ use Rattle.qc_log_commands.specs.declared.watching.Watching.TheVariants as watch
 use Rattle.qc_log_commands.specs.WatchAccount.{watch_reader}
 use Rattle.qc_log_commands.specs.WatchTexts.{watching_status}
 use Rattle.qc_words.proofs.LimitLemmas.{asked_kept}
-use Rattle.qc_words.specs.Asked.{Asked, KeepsLimits, are_different, is_same, read, plan, moves, simulate, make, help, version, usage}
+use Rattle.qc_words.specs.Asked.{Asked, KeepsLimits, are_different, read, plan, moves, simulate, replan, make, help, version, usage}
 use Rattle.qc_words.specs.declared.asked.Reader.{Reader}
 use Rattle.qc_words.specs.declared.asked.Reader.TheVariants as reader
 use Rattle.qc_words.specs.Words.{Asks}
 use Rattle.qc_top.specs.Account.{IsAbout, IsReadBy, IsRun, IsRunOf, IsSaid, IsStopped, IsUsage}
-use Rattle.qc_top.specs.Promises.{IsWriting, Promises}
+use Rattle.qc_top.specs.Promises.{IsWriting, Promises, ReadStays, Stays}
+use Rattle.qc_top.proofs.StayLemmas.{apart_parts, get_other, reads_stay}
 
 -- ---- want of memory for the words, as an answer of each command
 
@@ -81,6 +82,13 @@ module _ (v pb pa : View) (ended : Status)
 
   as_list : (m : Moving) → IsMovesRun m v v pb pa ended
   as_list m = record { answer = Err stop.OutOfMemory; serves = (refl, tt, refl, refl, refl); reports = reports }
+
+  as_rest : (r : Replanning) → IsRestRun r v v pb pa ended
+  as_rest r = record {
+    answer = Err stop.OutOfMemory;
+    serves = (inl refl, tt, record { files = refl; made = refl; faults = refl });
+    reports = reports;
+  }
 
   as_odds : (s : Simulating) → IsOddsRun s v v pb pa ended
   as_odds s = record {
@@ -162,23 +170,11 @@ out_kept other before after pb pa ended h = (h.reports.beside_stays, h.reports.n
 
 -- ---- the planner's own plan
 
--- a name is none of others, which differ
-apart_parts : (name : Option (List ℕ)) (names : List (Option (List ℕ))) → are_different (name ∷ names) ≡ true
-    → (not (list_any (is_same name) names) ≡ true) × (are_different names ≡ true)
-apart_parts name names = and_parts (not (list_any (is_same name) names)) (are_different names)
-
 -- two tests of which none passes
 none_of : (a b : Bool) → not (a || (b || false)) ≡ true → (a ≡ false) × (b ≡ false)
 none_of true b h = absurd (false≢true h)
 none_of false true h = absurd (false≢true h)
 none_of false false h = (refl, refl)
-
--- a file of another name is as it was
-get_other : (files : Files) (name bytes other : List ℕ) → bytes_eq other name ≡ false
-    → get (insert files name bytes) other ≡ get files other
-get_other files name bytes other differs =
-    get-insert nat_list_cmp_total files name bytes other
-    ∙ ap (λ (b : Bool). cond b (Some bytes) (get files other)) (is_eq-slice_cmp other name ∙ differs)
 
 module _ (asked : Planning) (o : List ℕ) (no_plan : bytes_eq o asked.plan ≡ false) (no_tree : bytes_eq o asked.tree ≡ false)
     (held : Files) where
@@ -193,7 +189,11 @@ module _ (asked : Planning) (o : List ℕ) (no_plan : bytes_eq o asked.plan ≡ 
 
   left_other : (now : Option Files) → IsLeft asked held now → IfSome now (λ f. get f o ≡ get held o)
   left_other now (inl is) = now_other now held is refl
-  left_other now (inr left) =
+  left_other now (inr (inl left)) =
+      let s = left.0 in
+      now_other now (with_tree held asked.tree s.inst s.tree) left.1
+      (get_other held asked.tree (tree_text s.inst s.tree) o no_tree)
+  left_other now (inr (inr left)) =
       let s = left.0 in
       let tree = get_other held asked.tree (tree_text s.inst s.tree) o no_tree in
       elim left.1 [
@@ -243,15 +243,22 @@ module _ (words : List (List ℕ)) (before after pb pa : View) (ended : Status) 
       odds_promises asked before after pb pa ended
       (served (λ v. IsOddsRun asked before v pb pa ended) (λ reports. as_odds before pb pa ended reports asked) (serves (simulate asked) asks))
 
-  own_stays : (asked : Planning) → Asks words (plan asked)
-      → IfSome asked.inputs.own (λ own. IfSome before.files (λ held. IfSome after.files (λ now. get now own ≡ get held own)))
+  writes_rest : (asked : Replanning) → Asks words (replan asked) → RestPromises asked before after pb pa ended
+  writes_rest asked asks =
+      rest_promises asked before after pb pa ended
+      (served (λ v. IsRestRun asked before v pb pa ended) (λ reports. as_rest before pb pa ended reports asked) (serves (replan asked) asks))
+
+  read_stays : (asked : Replanning) → Asks words (replan asked) → ReadStays asked before after
+  read_stays asked asks = reads_stay asked before after (writes_rest asked asks).left (subst KeepsLimits asks (asked_kept words)).1
+
+  own_stays : (asked : Planning) → Asks words (plan asked) → Stays asked.inputs.own before after
   own_stays asked asks = by asked.inputs.own (subst KeepsLimits asks (asked_kept words)).1
     where
       written : List (Option (List ℕ))
       written = Some asked.plan ∷ Some asked.tree ∷ []
 
       by : (own : Option (List ℕ)) → are_different (asked.inputs.ship ∷ asked.inputs.stow ∷ own ∷ written) ≡ true
-          → IfSome own (λ own. IfSome before.files (λ held. IfSome after.files (λ now. get now own ≡ get held own)))
+          → Stays own before after
       by None apart = tt
       by (Some o) apart =
           let behind_ship = (apart_parts asked.inputs.ship (asked.inputs.stow ∷ Some o ∷ written) apart).1 in
@@ -345,6 +352,9 @@ module _ (words : List (List ℕ)) (before after pb pa : View) (ended : Status) 
   whatever (moves asked) asks =
       let p = lists_moves asked asks in
       record { stays = λ never. absurd (never tt); usage_words = λ e. absurd (p.no_usage e); memory = p.out_of_memory }
+  whatever (replan asked) asks =
+      let p = writes_rest asked asks in
+      record { stays = λ never. absurd (never tt); usage_words = λ e. absurd (p.no_usage e); memory = p.out_of_memory }
   whatever (simulate asked) asks = by_reads (simulate asked) (simulates asked asks).reads
   whatever (read command names) asks = by_command command names (read command names) (reads command names asks)
   whatever (make n k c) asks = record {
@@ -362,7 +372,9 @@ module _ (words : List (List ℕ)) (before after pb pa : View) (ended : Status) 
     plans = plans;
     lists_moves = lists_moves;
     simulates = simulates;
+    writes_rest = writes_rest;
     own_stays = own_stays;
+    read_stays = read_stays;
     checks_tree = λ names asks. tree_promises names before after pb pa ended (reads reader.CheckTree names asks);
     checks_plan = λ names asks. plan_check_promises names before after pb pa ended (reads reader.Check names asks);
     makes = makes;

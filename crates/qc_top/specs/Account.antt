@@ -7,6 +7,7 @@ use Rattle.qc_moves_command.specs.Account.{IsMovesRun}
 use Rattle.qc_odds_command.specs.Account.{IsOddsRun}
 use Rattle.qc_picture_command.specs.Account.{picture_reader, report_reader}
 use Rattle.qc_plan_command.specs.Account.{IsPlanRun}
+use Rattle.qc_rest_command.specs.Account.{IsRestRun}
 use Rattle.qc_run.specs.declared.refusal.Refusal.TheVariants as refusal
 use Rattle.qc_run.specs.declared.refusal.Stop.{Stop}
 use Rattle.qc_run.specs.declared.refusal.Stop.TheVariants as stop
@@ -19,7 +20,7 @@ use Rattle.qc_run.specs.Texts.{stop_status, stop_text}
 use Rattle.qc_sheet_command.specs.Account.{sheet_reader}
 use Rattle.qc_trial.specs.Account.{IsTrialRun}
 use Rattle.qc_log_commands.specs.WatchAccount.{watch_reader}
-use Rattle.qc_words.specs.Asked.{Asked, read, plan, moves, simulate, make, help, version, usage}
+use Rattle.qc_words.specs.Asked.{Asked, read, plan, moves, simulate, replan, make, help, version, usage}
 use Rattle.qc_words.specs.declared.asked.Reader.{Reader}
 use Rattle.qc_words.specs.declared.asked.Reader.TheVariants as reader
 use Rattle.qc_words.specs.Commands.{named}
@@ -68,6 +69,7 @@ IsRunOf (read reader names) = IsReadBy reader names
 IsRunOf (plan asked) = IsPlanRun asked
 IsRunOf (moves asked) = IsMovesRun asked
 IsRunOf (simulate asked) = IsOddsRun asked
+IsRunOf (replan asked) = IsRestRun asked
 IsRunOf (make n h c) = IsMakeRun n h c
 IsRunOf (help of) = IsAbout
 IsRunOf version = IsAbout

@@ -7,14 +7,15 @@ use Rattle.qc_judge_commands.specs.Promises.{PlanCheckPromises, TreePromises}
 use Rattle.qc_moves_command.specs.Promises.{MovesPromises}
 use Rattle.qc_odds_command.specs.Promises.{OddsPromises}
 use Rattle.qc_plan_command.specs.Promises.{PlanPromises}
+use Rattle.qc_rest_command.specs.Promises.{RestPromises}
 use Rattle.qc_run.specs.declared.refusal.Stop.TheVariants as stop
 use Rattle.qc_run.specs.declared.status.Status.{Status}
 use Rattle.qc_run.specs.declared.status.Status.TheVariants as status
-use Rattle.qc_run.specs.Inputs.{Moving, Names, Planning, Simulating}
+use Rattle.qc_run.specs.Inputs.{Moving, Names, Planning, Replanning, Simulating}
 use Rattle.qc_run.specs.Reports.{Prints}
 use Rattle.qc_run.specs.Told.{EndsWith}
 use Rattle.qc_trial.specs.Account.{TrialPromises}
-use Rattle.qc_words.specs.Asked.{Asked, read, plan, moves, simulate, make, help, version, usage}
+use Rattle.qc_words.specs.Asked.{Asked, read, plan, moves, simulate, replan, make, help, version, usage}
 use Rattle.qc_words.specs.declared.asked.Reader.TheVariants as reader
 use Rattle.qc_words.specs.Commands.{named}
 use Rattle.qc_words.specs.Words.{Asks, about}
@@ -25,7 +26,20 @@ use Rattle.qc_words.specs.declared.commands.CommandName.{CommandName}
 abbrev pub IsWriting : Asked → Type 0
 IsWriting (plan asked) = Unit {0}
 IsWriting (moves asked) = Unit {0}
+IsWriting (replan asked) = Unit {0}
 IsWriting _ = ⊥
+
+-- the file with this name, where there is one, is as it was
+abbrev pub Stays : Option (List ℕ) → (before after : View) → Type 0
+Stays name before after =
+    IfSome name (λ name. IfSome before.files (λ held. IfSome after.files (λ now. get now name ≡ get held name)))
+
+-- the files that the rest of a plan reads are as they were
+pub record ReadStays (asked : Replanning) (before after : View) : Type 0 where
+  pub ship : Stays asked.inputs.ship before after
+  pub stow : Stays asked.inputs.stow before after
+  pub plan : Stays asked.inputs.plan before after
+  pub log : Stays asked.inputs.log before after
 
 pub record Promises (words : List (List ℕ)) (before after out_before out_after : View) (ended : Status) : Type 0 where
   -- what each command promises: a plan by schedules that go one way, and one by all that are feasible
@@ -37,15 +51,18 @@ pub record Promises (words : List (List ℕ)) (before after out_before out_after
   -- the odds of a plan by what tasks of past calls took
   pub simulates : (asked : Simulating) → Asks words (simulate asked)
       → OddsPromises asked before after out_before out_after ended
+  -- what is left of a plan in the middle of its work
+  pub writes_rest : (asked : Replanning) → Asks words (replan asked)
+      → RestPromises asked before after out_before out_after ended
   -- a check of schedules that go one way, and one of all that are feasible
   pub checks_tree : (names : Names) → Asks words (read reader.CheckTree names)
       → TreePromises names before after out_before out_after ended
   pub checks_plan : (names : Names) → Asks words (read reader.Check names)
       → PlanCheckPromises names before after out_before out_after ended
   pub makes : (n h c : ℕ) → Asks words (make n h c) → TrialPromises n h c out_before out_after ended
-  -- a plan leaves the planner's own plan as it is
-  pub own_stays : (asked : Planning) → Asks words (plan asked) → IfSome asked.inputs.own (λ own.
-      IfSome before.files (λ held. IfSome after.files (λ now. get now own ≡ get held own)))
+  -- a plan leaves the planner's own plan as it is, and the rest of a plan the files that it reads
+  pub own_stays : (asked : Planning) → Asks words (plan asked) → Stays asked.inputs.own before after
+  pub read_stays : (asked : Replanning) → Asks words (replan asked) → ReadStays asked before after
   -- making leaves the shelf untouched, and all but what writes leave the files
   pub make_leaves : (n h c : ℕ) → Asks words (make n h c) → after ≡ before
   pub files_stay : (asked : Asked) → Asks words asked → ¬ IsWriting asked → after.files ≡ before.files

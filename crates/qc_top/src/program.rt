@@ -15,6 +15,7 @@ use qc_num::OutOfMemory;
 use qc_odds_command::odds;
 use qc_picture_command::{Print, print_plan};
 use qc_plan_command::plan;
+use qc_rest_command::write_rest;
 use qc_run::{Ended, Inputs, Refusal, Status, Stop, report_stop, report_text};
 use qc_sheet_command::print_sheet;
 use qc_trial::make;
@@ -66,6 +67,7 @@ fn serve<S: Shelf, K: Sink>(
         Request::Plans(asked) => plan(alloc, &asked, shelf, out),
         Request::Moves(asked) => list_moves(alloc, &asked, shelf, out),
         Request::Odds(asked) => odds(alloc, &asked, shelf, out),
+        Request::Rest(asked) => write_rest(alloc, &asked, shelf, out),
         Request::Make {
             number,
             hatches,

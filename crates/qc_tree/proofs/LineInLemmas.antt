@@ -72,8 +72,8 @@ line_of (Work v) list e =
     let p = and_parts (nat_le 1 v) (nat_lt v (10 ^ 15)) e in
     (leb-true 1 v p.0, ltb-true v (10 ^ 15) p.1)
 line_of (End b x) list e =
-    let p = and_parts (nat_lt b (10 ^ 6)) (is_value x) e in
-    (ltb-true b (10 ^ 6) p.0, value_of x p.1)
+    let p = and_parts (nat_lt b (10 ^ 7)) (is_value x) e in
+    (ltb-true b (10 ^ 7) p.0, value_of x p.1)
 
 pub in_range_of : (line : Line) (list : List ℕ) → IsLine line list → in_range line list ≡ true
 in_range_of Title list h = refl
@@ -91,7 +91,7 @@ in_range_of Clash list h =
 in_range_of (Work v) list h =
     and_from (nat_le 1 v) (nat_lt v (10 ^ 15)) (le-leb 1 v h.0) (lt-ltb v (10 ^ 15) h.1)
 in_range_of (End b x) list h =
-    and_from (nat_lt b (10 ^ 6)) (is_value x) (lt-ltb b (10 ^ 6) h.0) (is_value_of x h.1)
+    and_from (nat_lt b (10 ^ 7)) (is_value x) (lt-ltb b (10 ^ 7) h.0) (is_value_of x h.1)
 
 -- ---- what is read is a line with its text
 
@@ -198,7 +198,7 @@ no_word : (x : ℕ) → x < 2 ^ 64 → bytes_eq (decimal x) (codes "never") ≡ 
 no_word x wide = false_from_ne_true (bytes_eq (decimal x) (codes "never"))
     (λ e. never_digits x wide (append-nil (decimal x) ∙ (bytes_eq-Decides (decimal x) (codes "never")).0 e))
 
-candidate_end : (b : ℕ) (x : Bound) → b < 10 ^ 6 → IsValue x → IsCandidate (End b x) []
+candidate_end : (b : ℕ) (x : Bound) → b < 10 ^ 7 → IsValue x → IsCandidate (End b x) []
 candidate_end b Never small value =
     let wide : b < 2 ^ 64 = omega (arith, small) in
     ap (λ ws. candidate (codes "end" ∷ ws))

@@ -105,7 +105,7 @@ module _ (rest : List ℕ) (list : List ℕ) where
 
   pub end_only :
       (line : Line) → IsTextOf (101 ∷ rest) line list
-      → (b : ℕ) × (x : Bound) × (line ≡ End b x) × (list ≡ []) × (b < 10 ^ 6) × IsValue x
+      → (b : ℕ) × (x : Bound) × (line ≡ End b x) × (list ≡ []) × (b < 10 ^ 7) × IsValue x
       × (rest ≡ 110 ∷ 100 ∷ 32 ∷ (decimal b ++ bound_field x))
   end_only (End b x) h = (b, x, refl, h.list, h.in_range.0, h.in_range.1, ap (drop 1) h.same)
   end_only line h = absurd (omega (arith, ap (λ t. get_or t 0 0) h.same))

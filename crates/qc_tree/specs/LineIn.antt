@@ -61,7 +61,7 @@ in_range Chain list = are_tasks list
 in_range Ring list = nat_le 2 (length list) && are_tasks list
 in_range Clash list = nat_le 1 (length list) && are_tasks list
 in_range (Work v) list = nat_le 1 v && nat_lt v (10 ^ 15)
-in_range (End b x) list = nat_lt b (10 ^ 6) && is_value x
+in_range (End b x) list = nat_lt b (10 ^ 7) && is_value x
 in_range line list = true
 
 -- the text is the candidate as it is written

@@ -61,7 +61,7 @@ IsLine Ring path = (2 ≤ length path) × AreTasks path
 IsLine Reach path = Unit {0}
 IsLine (Work v) path = (1 ≤ v) × (v < 10 ^ 15)
 IsLine Clash path = (1 ≤ length path) × AreTasks path
-IsLine (End b x) path = (b < 10 ^ 6) × IsValue x
+IsLine (End b x) path = (b < 10 ^ 7) × IsValue x
 
 -- the list of a line: only a chain, a ring and packed tasks have one
 abbrev pub line_list : Line → List ℕ → List ℕ

@@ -23,7 +23,7 @@ pub enum TreeKind {
     NotConflict,
     /// What it branches on is decided: the task has a crane, or one of the pair is forced to wait.
     Decided,
-    /// A tree has at most 100,000 branchings.
+    /// A tree has at most 1,000,000 branchings.
     Branchings,
     /// A task of the chain isn't forced to come after the one before it.
     NotForced,

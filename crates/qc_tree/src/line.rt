@@ -12,7 +12,7 @@ pub const MOST_BYTES: usize = 1200;
 pub type LineReader = qc_lines::LineReader<MOST_BYTES>;
 
 /// How many branchings a tree has at most.
-pub const MOST_BRANCHINGS: u32 = 100_000;
+pub const MOST_BRANCHINGS: u32 = 1_000_000;
 
 /// A line of a tree's text. Tasks are numbered from 1, as in the text. The tasks of a chain, a
 /// ring or a clash stand in a path beside it.

@@ -16,7 +16,7 @@ const TASK_DIGITS: usize = 4;
 
 const VALUE_DIGITS: usize = 15;
 
-const COUNT_DIGITS: usize = 6;
+const COUNT_DIGITS: usize = 7;
 
 /// The line that the text is, where the text has no line feed. The path becomes the line's list, and
 /// is empty for a line without one.

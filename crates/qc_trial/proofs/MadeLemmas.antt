@@ -31,6 +31,7 @@ use Rattle.qc_tree.specs.Trees.{Tree, tree_text}
 use Rattle.qc_search.specs.Stored.{with_plan}
 use Rattle.qc_search.specs.Stored.{IsTreeStored as IsSearchStored}
 use Rattle.qc_search.proofs.OutcomeLemmas.{short_ends}
+use Rattle.qc_search.proofs.RoundLemmas.{ran_tree}
 use Rattle.qc_run.specs.declared.refusal.Refusal.{Refusal}
 use Rattle.qc_run.specs.declared.refusal.Refusal.TheVariants as refusal
 use Rattle.qc_run.specs.declared.refusal.Stop.{Stop}
@@ -116,15 +117,12 @@ are_stored inst search search_is (Some held) (Some now) after done found_stored 
     subst (λ (o : Option Files). IsSomeAnd o (λ files. AreStored inst files done)) (sym wrote) (record {
       tree = stored.tree;
       found = record {
-        found = search_is.found;
-        own_first = None;
-        own_offered = refl;
         first = search.first;
-        offered = search_is.offered;
+        begins = record { found = search_is.found; own_first = None; own_offered = refl; offered = search_is.offered };
         came = stored.came;
       };
       tree_stored = record {
-        is_tree = stored.came.run.is_tree;
+        is_tree = ran_tree search stored.tree done.best done.branched stored.came.ran;
         text = still_there inst stored.tree held now files is done.best refl;
       };
       plan_stored = plan_there inst stored.tree held now files is done.best refl sound.judgeable sound.soon

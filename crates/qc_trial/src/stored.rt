@@ -16,7 +16,7 @@ use qc_io::{MemShelf, Shelf, WriteFault};
 use qc_model::{Instance, Schedule, direction_of, ends};
 use qc_num::{Bound, OutOfMemory, Tick};
 use qc_replay::{ReplayError, replay};
-use qc_search::{Done, EFFORT, Search, store_best, store_tree};
+use qc_search::{Done, EFFORT, Search, store_best};
 use qc_sweep::first_plan;
 use std::alloc::Global;
 
@@ -51,7 +51,7 @@ pub(crate) fn store_search<S: Shelf>(
         IsSomeAnd (S.Sink.view shelf.new).files (λ files. AreStored inst.now files done))) }
 {
     let search = search_for(alloc, inst)?;
-    let Ok(done) = store_tree(search, TREE, shelf) else {
+    let Ok(done) = search.store_tree(TREE, shelf) else {
         return Err(OutOfMemory);
     };
     match store_best(inst, &done, PLAN, shelf) {

@@ -37,6 +37,10 @@ pub(crate) fn names_of<'a>(request: &Request<'a>) -> Option<Names<'a>> {
             read: asked.inputs,
             written: None,
         }),
+        Request::Rest(asked) => Some(Names {
+            read: asked.inputs,
+            written: None,
+        }),
         Request::Moves(_)
         | Request::Make { .. }
         | Request::Help(_)

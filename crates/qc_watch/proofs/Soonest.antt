@@ -1,5 +1,6 @@
 -- The first time at which any crane has a report that isn't passed.
 use Rattle.std.proofs.Common.{◌≡◌, ℕ, ◌+◌, ◌<◌, ◌≤◌, min, List, [], length, Option, None, Some, sym, subst, ◌∙◌, inl, inr, get_or, arith, Any, MatchOption}
+use Rattle.std.specs.Option.{option_map_or}
 use Rattle.std.proofs.lemmas.Bool.{cases_lt}
 use Rattle.std.proofs.lemmas.List.{get_or_default}
 use Rattle.qc_watch.specs.declared.report.Report.{Report}
@@ -66,7 +67,7 @@ module _ (lists : List (List Report)) (next : List ℕ) where
   }
 
   pub soonest_more : (cranes at : ℕ) (o : Option ℕ) → IsSoonest cranes o → HasNext cranes
-      → MatchOption o (at ≡ next_at cranes) (λ one. at ≡ min one (next_at cranes)) → IsSoonest (cranes + 1) (Some at)
+      → at ≡ option_map_or (λ other. min other (next_at cranes)) o (next_at cranes) → IsSoonest (cranes + 1) (Some at)
   soonest_more cranes at None is has e = record {
     crane = cranes;
     range = omega arith;

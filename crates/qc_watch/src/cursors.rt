@@ -1,6 +1,6 @@
 //! How far the reports of every crane are passed.
 
-ghost use Rattle.std.specs.Prelude.{◌≡◌, ◌+◌, ◌<◌, min, MatchOption};
+ghost use Rattle.std.specs.Prelude.{◌≡◌, ◌+◌, ◌<◌, MatchOption};
 ghost use Rattle.qc_watch.specs.Cursors.{AreCut, ArePlaces, AreSmall, IsCut, IsNextTime, IsOver};
 ghost use Rattle.qc_watch.specs.Numbers.{past_times};
 ghost use Rattle.qc_watch.specs.Reports.{AreOfOne, AreReports};
@@ -9,7 +9,7 @@ use crate::place::{Place, place_at};
 use crate::report::Report;
 use crate::reports::Reports;
 use qc_model::MOST_CRANES;
-use qc_num::Tick;
+use qc_num::{Tick, lesser};
 
 /// The most cranes, as the length of an array.
 const CRANES: usize = MOST_CRANES as usize;
@@ -42,16 +42,6 @@ fn passed(list: &[Report], next: usize, tick: Tick) -> usize
     }
 }
 
-/// The sooner of two ticks, of which the first may be missing.
-fn sooner(one: Option<Tick>, other: Tick) -> Tick
-    ensures { MatchOption one (result ≡ other) (λ one. result ≡ min one other) }
-{
-    match one {
-        Some(one) => one.min(other),
-        None => other,
-    }
-}
-
 impl Cursors {
     /// No report is passed.
     pub(crate) fn start(reports: &Reports) -> Cursors
@@ -78,7 +68,7 @@ impl Cursors {
             let list = reports.of(crane);
             let next = self.next[crane as usize];
             if next < list.len() {
-                soonest = Some(sooner(soonest, list[next].at));
+                soonest = Some(lesser(soonest, list[next].at));
             }
         }
         soonest

@@ -11,13 +11,13 @@ use Rattle.qc_model.specs.declared.turn.Turn.{Turn}
 use Rattle.qc_model.specs.declared.turn.Turn.TheVariants.{OneWay, Free}
 use Rattle.qc_num.specs.Digits.{is_plain, number_in}
 use Rattle.qc_num.proofs.DigitLemmas.{plain_parts, value_fits}
-use Rattle.qc_run.specs.Inputs.{Moving, Names, Planning}
+use Rattle.qc_run.specs.Inputs.{Moving, Names, Planning, Replanning}
 use Rattle.qc_words.specs.declared.asked.Reader.TheVariants as reader
 use Rattle.qc_words.specs.declared.commands.CommandName.{CommandName}
 use Rattle.qc_words.specs.declared.commands.CommandName.TheVariants as name
-use Rattle.qc_words.specs.Asked.{Asked, KeepsLimits, are_different, given, help, listing, most_number, most_runs, most_seed, moves, plan, read, tick_digits, usage, version}
+use Rattle.qc_words.specs.Asked.{Asked, KeepsLimits, are_different, given, help, listing, most_number, most_runs, most_seed, moves, plan, read, replan, resting, tick_digits, usage, version}
 use Rattle.qc_words.specs.Commands.{command_name, command_of, named, read_by}
-use Rattle.qc_words.specs.Words.{about, asked_by, asked_in, asked_of, by_in, check_in, followed, is_help, listed, make_of, moves_in, nodes_in, number_between, odds_in, odds_of, plan_in, plan_of, runs_in, seed_in, value_of, weighed}
+use Rattle.qc_words.specs.Words.{about, asked_by, asked_in, asked_of, by_in, check_in, followed, is_help, listed, make_of, moves_in, nodes_in, number_between, odds_in, odds_of, plan_in, plan_of, rest_in, runs_in, seed_in, value_of, weighed}
 
 abbrev IsBetween : ℕ → ℕ → Option ℕ → Type 0
 IsBetween least most number = IfSome number (λ n. (least ≤ n) × (n ≤ most))
@@ -69,6 +69,16 @@ moves_kept rows =
       stow = value_of (codes "stow") rows;
     } in
     cond_both (are_different (listing asked)) (moves asked) usage KeepsLimits (λ yes. yes) (λ _. tt)
+
+rest_kept : (rows : List Row) → KeepsLimits (rest_in rows)
+rest_kept rows =
+    let asked : Replanning = record {
+      inputs = followed rows;
+      new_ship = value_of (codes "newship") rows;
+      new_stow = value_of (codes "newstow") rows;
+      own = value_of (codes "own") rows;
+    } in
+    cond_both (are_different (resting asked)) (replan asked) usage KeepsLimits (λ yes. ((refl, refl, refl), yes)) (λ _. tt)
 
 runs_kept : (text : Option Text) → IsBetween 1 most_runs (runs_in text)
 runs_kept None = (lit≤ tt, lit≤ tt)
@@ -122,6 +132,7 @@ command_kept name.Picture rows = (refl, refl)
 command_kept name.Report rows = (refl, refl)
 command_kept name.Moves rows = moves_kept rows
 command_kept name.Odds rows = odds_numbers_kept rows _ _ _ (runs_kept (first_of (codes "runs") rows)) (seed_kept (first_of (codes "seed") rows)) (by_kept (first_of (codes "by") rows))
+command_kept name.Rest rows = rest_kept rows
 command_kept name.Make rows = make_kept _ _ _ (number_kept 0 most_number (value_of (codes "number") rows))
     (number_kept 1 most_hatches (value_of (codes "hatches") rows)) (number_kept 1 most_cranes (value_of (codes "cranes") rows))
 

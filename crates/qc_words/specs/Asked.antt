@@ -3,7 +3,7 @@ use Rattle.std.specs.Prelude.{ℕ, ◌<◌, ◌≤◌, ◌^◌, Bool, true, fals
 use Rattle.std.specs.List.{list_any}
 use Rattle.std.specs.Str.{bytes_eq}
 use Rattle.qc_model.specs.Numbers.{most_branchings, most_cranes, most_hatches}
-use Rattle.qc_run.specs.Inputs.{Moving, Names, Planning, Simulating, moving, names_of, planning, simulating}
+use Rattle.qc_run.specs.Inputs.{Moving, Names, Planning, Replanning, Simulating, moving, names_of, planning, replanning, simulating}
 use Rattle.qc_words.specs.declared.asked.Reader.{Reader}
 use Rattle.qc_words.specs.declared.asked.Reader.TheVariants as reader
 use Rattle.qc_words.specs.declared.asked.Request.{Request}
@@ -35,6 +35,8 @@ pub data Asked : Type 0 where
   moves : Moving → Asked
   -- the odds of a plan by what tasks of past calls took
   simulate : Simulating → Asked
+  -- what is left of a plan in the middle of its work, as files of its own
+  replan : Replanning → Asked
   -- a ship and a list made from a number, planned and checked
   make : (number hatches cranes : ℕ) → Asked
   -- what the program does and its commands, or one command
@@ -50,6 +52,7 @@ asked_for (request.Reads reader files) = read reader (names_of files)
 asked_for (request.Plans asked) = plan (planning asked)
 asked_for (request.Moves asked) = moves (moving asked)
 asked_for (request.Odds asked) = simulate (simulating asked)
+asked_for (request.Rest asked) = replan (replanning asked)
 asked_for (request.Make number hatches cranes) = make number hatches cranes
 asked_for (request.Help of) = help of
 asked_for request.Version = version
@@ -74,6 +77,12 @@ given asked =
 abbrev pub listing : Moving → List (Option (List ℕ))
 listing asked = Some asked.arrival ∷ Some asked.departure ∷ Some asked.stow ∷ []
 
+-- and those that the rest of a plan is given
+abbrev pub resting : Replanning → List (Option (List ℕ))
+resting asked =
+    asked.inputs.ship ∷ asked.inputs.stow ∷ asked.inputs.plan ∷ asked.inputs.log
+    ∷ Some asked.new_ship ∷ Some asked.new_stow ∷ Some asked.own ∷ []
+
 -- the files that the command reads are named
 abbrev pub AreNamed : Reader → Names → Type 0
 AreNamed reader.Check names = IsSome names.stow × IsSome names.plan × IsSome names.tree
@@ -92,6 +101,7 @@ KeepsLimits (moves asked) = IsTrue (are_different (listing asked))
 KeepsLimits (simulate asked) =
     IsSome asked.inputs.stow × IsSome asked.inputs.plan × IsSome asked.inputs.past
     × (1 ≤ asked.runs) × (asked.runs ≤ most_runs) × (asked.seed ≤ most_seed) × IfSome asked.by_tick (λ tick. tick < 10 ^ tick_digits)
+KeepsLimits (replan asked) = AreNamed reader.Dispatch asked.inputs × IsTrue (are_different (resting asked))
 KeepsLimits (make number hatches cranes) =
     (number ≤ most_number) × (1 ≤ hatches) × (hatches ≤ most_hatches)
     × (1 ≤ cranes) × (cranes ≤ most_cranes)

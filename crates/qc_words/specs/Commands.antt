@@ -24,7 +24,8 @@ command_name word =
     else (if bytes_eq word (codes "report") then Some name.Report
     else (if bytes_eq word (codes "moves") then Some name.Moves
     else (if bytes_eq word (codes "odds") then Some name.Odds
-    else None)))))))))))))
+    else (if bytes_eq word (codes "rest") then Some name.Rest
+    else None))))))))))))))
 
 -- and that of a command line
 abbrev pub named : List (List ℕ) → Option CommandName
@@ -60,6 +61,11 @@ abbrev pub odds_command : App
 odds_command =
     command_with_options (codes "odds") (codes "ship" ∷ codes "stow" ∷ codes "plan" ∷ codes "past" ∷ []) (codes "runs" ∷ codes "seed" ∷ codes "by" ∷ [])
 
+-- the command that writes what is left of a plan: the files that it reads, and those that it writes
+abbrev pub rest_command : App
+rest_command =
+    command_with (codes "rest") (codes "ship" ∷ codes "stow" ∷ codes "plan" ∷ codes "log" ∷ codes "newship" ∷ codes "newstow" ∷ codes "own" ∷ [])
+
 -- each command, with its operands
 abbrev pub command_of : CommandName → App
 command_of name.Plan = search_command (codes "plan")
@@ -81,6 +87,7 @@ command_of name.Report = command_with (codes "report") (codes "ship" ∷ codes "
 command_of name.Moves =
     command_with (codes "moves") (codes "arrival" ∷ codes "departure" ∷ codes "stow" ∷ [])
 command_of name.Odds = odds_command
+command_of name.Rest = rest_command
 
 -- what the command reads from the words, or nothing where it refuses them
 abbrev pub read_by : App → List (List ℕ) → Option (List Row)

@@ -8,8 +8,8 @@ use Rattle.qc_model.specs.Numbers.{most_branchings, most_cranes, most_hatches}
 use Rattle.qc_model.specs.declared.turn.Turn.{Turn}
 use Rattle.qc_model.specs.declared.turn.Turn.TheVariants.{OneWay, Free}
 use Rattle.qc_num.specs.Digits.{number_in}
-use Rattle.qc_run.specs.Inputs.{Moving, Names, Planning, Simulating, no_names}
-use Rattle.qc_words.specs.Asked.{Asked, read, plan, moves, simulate, make, help, version, usage, are_different, given, listing, most_number, most_runs, most_seed, tick_digits}
+use Rattle.qc_run.specs.Inputs.{Moving, Names, Planning, Replanning, Simulating, no_names}
+use Rattle.qc_words.specs.Asked.{Asked, read, plan, moves, simulate, replan, make, help, version, usage, are_different, given, listing, resting, most_number, most_runs, most_seed, tick_digits}
 use Rattle.qc_words.specs.declared.asked.Reader.TheVariants as reader
 use Rattle.qc_words.specs.Commands.{command_of, named, read_by, command_name}
 use Rattle.qc_words.specs.declared.commands.CommandName.{CommandName}
@@ -156,6 +156,18 @@ abbrev pub odds_in : List Row → Asked
 odds_in rows = odds_of (weighed rows) (runs_in (first_of (codes "runs") rows)) (seed_in (first_of (codes "seed") rows))
     (by_in (first_of (codes "by") rows))
 
+-- what is left of a plan, where the names are different
+abbrev pub rest_of : Replanning → Asked
+rest_of asked = if are_different (resting asked) then replan asked else usage
+
+abbrev pub rest_in : List Row → Asked
+rest_in rows = rest_of (record {
+  inputs = followed rows;
+  new_ship = value_of (codes "newship") rows;
+  new_stow = value_of (codes "newstow") rows;
+  own = value_of (codes "own") rows;
+})
+
 -- what a command asks for by the values that were read
 abbrev pub asked_in : CommandName → List Row → Asked
 asked_in name.Plan rows = plan_in OneWay rows
@@ -175,6 +187,7 @@ asked_in name.Picture rows = read reader.Picture (planned rows)
 asked_in name.Report rows = read reader.Report (planned rows)
 asked_in name.Moves rows = moves_in rows
 asked_in name.Odds rows = odds_in rows
+asked_in name.Rest rows = rest_in rows
 
 -- what words ask of a command: Usage where no command begins them, where `clap` refuses them, where a
 -- number isn't one in plain decimal and in range, and where the names of a command that writes aren't different

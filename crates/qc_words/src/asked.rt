@@ -1,7 +1,7 @@
 //! What the words ask for.
 
 use crate::commands::CommandName;
-use qc_run::{Inputs, MovesAsked, OddsAsked, PlanAsked};
+use qc_run::{Inputs, MovesAsked, OddsAsked, PlanAsked, RestAsked};
 
 /// The greatest number that a ship and a list are made from.
 pub const MOST_NUMBER: u32 = 2_147_483_647;
@@ -46,6 +46,8 @@ pub enum Request<'a> {
     Moves(MovesAsked<'a>),
     /// The odds of a plan by what tasks of past calls took.
     Odds(OddsAsked<'a>),
+    /// What is left of a plan in the middle of its work, as files of its own.
+    Rest(RestAsked<'a>),
     /// A ship and a list made from a number, planned and checked.
     Make {
         number: u32,

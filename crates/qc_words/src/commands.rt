@@ -3,7 +3,7 @@
 ghost use Rattle.std.specs.Prelude.{◌≡◌, IfOk, map};
 ghost use Rattle.qc_words.specs.Words.{texts};
 ghost use Rattle.clap.specs.Words.{app_of};
-ghost use Rattle.qc_words.specs.Commands.{command_name, named, command_with_options, command_with, command_of, odds_command, search_command};
+ghost use Rattle.qc_words.specs.Commands.{command_name, named, command_with_options, command_with, command_of, odds_command, rest_command, search_command};
 
 use clap::{Arg, Command};
 use std::alloc::{AllocError, Global};
@@ -25,6 +25,7 @@ pub enum CommandName {
     Report,
     Moves,
     Odds,
+    Rest,
 }
 
 /// The command with this name.
@@ -46,6 +47,7 @@ pub(crate) fn command_name(word: &str) -> Option<CommandName>
         "report" => Some(CommandName::Report),
         "moves" => Some(CommandName::Moves),
         "odds" => Some(CommandName::Odds),
+        "rest" => Some(CommandName::Rest),
         _ => None,
     }
 }
@@ -113,6 +115,17 @@ fn odds_command<'a>(alloc: Global) -> Result<Command<'a>, AllocError>
     )
 }
 
+/// The command that writes what is left of a plan, with its operands.
+fn rest_command<'a>(alloc: Global) -> Result<Command<'a>, AllocError>
+    ensures { IfOk result (λ command. app_of command ≡ rest_command) }
+{
+    command_with(
+        alloc,
+        "rest",
+        &["ship", "stow", "plan", "log", "newship", "newstow", "own"],
+    )
+}
+
 /// The command as `clap` is told it.
 pub fn command_of<'a>(alloc: Global, name: CommandName) -> Result<Command<'a>, AllocError>
     ensures { IfOk result (λ command. app_of command ≡ command_of name) }
@@ -134,5 +147,6 @@ pub fn command_of<'a>(alloc: Global, name: CommandName) -> Result<Command<'a>, A
         CommandName::Report => command_with(alloc, "report", &["ship", "stow", "plan"]),
         CommandName::Moves => command_with(alloc, "moves", &["arrival", "departure", "stow"]),
         CommandName::Odds => odds_command(alloc),
+        CommandName::Rest => rest_command(alloc),
     }
 }

@@ -33,6 +33,8 @@ qc moves ARRIVAL DEPARTURE STOW
     writes the list of moves that leads from one bay plan to another
 qc odds SHIP STOW PLAN PAST [--runs N] [--seed S] [--by T]
     how often a plan ends in time, by how long tasks of past calls took
+qc rest SHIP STOW PLAN LOG NEWSHIP NEWSTOW OWN
+    writes what is left of a plan in the middle of its work, to be planned anew
 
 qc COMMAND --help tells more of one command, qc --version which program this is. With -q as the
 first word nothing is said on standard error.
@@ -43,7 +45,7 @@ const PLAN: &[u8] = b"qc plan SHIP STOW PLAN TREE [--nodes N] [--from OWN]
 
 Searches for a plan that ends early, and writes the best that it finds, and a tree that shows how
 early one that goes one way can end.
-    --nodes N    at most N branchings of the search, 0 to 100000; 20000 where it isn't given
+    --nodes N    at most N branchings of the search, 0 to 1000000; 20000 where it isn't given
     --from OWN   a plan to begin with: the plan that is written never ends later
 Ends with 0 Optimal: no plan that goes one way ends earlier; 10 Infeasible: none goes one way;
 11 Budget: the branchings are spent, the plan is the best that is known, and none that goes one
@@ -87,7 +89,7 @@ const FREE: &[u8] = b"qc free SHIP STOW PLAN TREE [--nodes N] [--from OWN]
 Searches as plan does, for plans of any kind: a crane may go to and fro where it pays. It goes on
 from what a search as of plan finds first, with as many branchings, so it takes longer; its tree is
 one of all feasible plans.
-    --nodes N    at most N branchings of each search, 0 to 100000; 20000 where it isn't given
+    --nodes N    at most N branchings of each search, 0 to 1000000; 20000 where it isn't given
     --from OWN   a plan to begin with, whichever way its cranes go: what is written never ends later
 Ends with 0 Optimal: no feasible plan ends earlier; 10 Infeasible: there is none; 11 Budget: the
 branchings are spent, the plan is the best that is known, and none ends before the bound;
@@ -166,6 +168,16 @@ Ends with 0, or 13 Broken.
 Faults end with 2 to 6, 8, 9, 15 and 21, and are told by their kind and place: man 5 qc.
 ";
 
+const REST: &[u8] = b"qc rest SHIP STOW PLAN LOG NEWSHIP NEWSTOW OWN
+
+Follows a plan by a log, as dispatch does, and writes what has no start yet, with tick 0 at the last
+tick of LOG: a ship file, a stowage list, and OWN, a plan by which the old order goes on. Then
+qc plan NEWSHIP NEWSTOW PLAN2 TREE2 --from OWN looks for a better one. All seven names differ.
+Ends with 0, 13 Broken, or 20 NoRest: a task that runs has no ticks left, or a crane is ready too
+late or would stand too far out. With these no file is written.
+Faults end with 2 to 6, 8, 9, 15 and 17, and are told by their kind and place: man 5 qc.
+";
+
 const VERSION: &[u8] = b"qc 0.4.0
 proved with rattle-kit-13f logic dac8208d650f15bf
 ";
@@ -189,6 +201,7 @@ fn command_help(of: CommandName) -> &'static [u8]
         CommandName::Report => REPORT,
         CommandName::Moves => MOVES,
         CommandName::Odds => ODDS,
+        CommandName::Rest => REST,
     }
 }
 

@@ -1,13 +1,14 @@
 //! Words that are read as a request.
 
-ghost use Rattle.std.specs.Prelude.{◌≡◌, IfOk, IfSome, IsOk, IsTrue, option_map};
+ghost use Rattle.std.specs.Prelude.{◌≡◌, IfOk, IfSome, IsOk, IsTrue, map, option_map};
+ghost use Rattle.std.specs.List.{list_any};
 ghost use Rattle.std.specs.Option.{option_map_or};
 ghost use Rattle.clap.specs.Words.{app_of, found_of, rows_of, first_of, is_simple_and_free};
-ghost use Rattle.qc_run.specs.Inputs.{moving, names_of, planning};
-ghost use Rattle.qc_words.specs.Asked.{asked_for, usage, KeepsLimits, are_different, given, is_same, listing};
+ghost use Rattle.qc_run.specs.Inputs.{moving, names_of, planning, replanning};
+ghost use Rattle.qc_words.specs.Asked.{asked_for, usage, KeepsLimits, are_different, given, is_same, listing, resting};
 ghost use Rattle.qc_words.specs.Commands.{command_of, named, read_by};
 ghost use Rattle.qc_words.specs.declared.commands.CommandName.TheVariants as name;
-ghost use Rattle.qc_words.specs.Words.{Asks, about, asked_in, by_in, check_in, followed, listed, moves_in, nodes_in, number_between, odds_in, plan_in, planned, runs_in, seed_in, texts, value_of, watched, weighed};
+ghost use Rattle.qc_words.specs.Words.{Asks, about, asked_in, by_in, check_in, followed, listed, moves_in, nodes_in, number_between, odds_in, plan_in, planned, rest_in, runs_in, seed_in, texts, value_of, watched, weighed};
 
 use crate::about::about;
 use crate::asked::{MOST_NUMBER, MOST_RUNS, MOST_SEED, Reader, Request};
@@ -16,7 +17,7 @@ use clap::error::ErrorKind;
 use clap::{ArgMatches, Command};
 use qc_model::{MOST_CRANES, MOST_HATCHES, Turn};
 use qc_num::{OutOfMemory, Tick, plain_number};
-use qc_run::{Inputs, MovesAsked, OddsAsked, PlanAsked};
+use qc_run::{Inputs, MovesAsked, OddsAsked, PlanAsked, RestAsked};
 use qc_tree::MOST_BRANCHINGS;
 use std::alloc::Global;
 
@@ -200,16 +201,24 @@ fn is_same(a: Option<&str>, b: Option<&str>) -> bool
     }
 }
 
-/// Whether no two of a plan's names are equal.
-fn are_different(asked: &PlanAsked<'_>) -> bool
-    ensures { result ≡ are_different (given (planning asked.now)) }
+/// Whether one of these names is there and is equal to this one.
+fn is_among(name: Option<&str>, names: &[Option<&str>]) -> bool
+    ensures { result ≡ list_any (λ other. is_same (option_map (λ text. text.now) name.entry)
+        (option_map (λ text. text.now) other)) names.now }
 {
-    let (ship, stow, own) = (Some(asked.inputs.ship), asked.inputs.stow, asked.inputs.own);
-    let (plan, tree) = (Some(asked.plan), Some(asked.tree));
-    !(is_same(ship, stow) || is_same(ship, own) || is_same(ship, plan) || is_same(ship, tree))
-        && !(is_same(stow, own) || is_same(stow, plan) || is_same(stow, tree))
-        && !(is_same(own, plan) || is_same(own, tree))
-        && !is_same(plan, tree)
+    names.iter().any(|other| is_same(name, *other))
+}
+
+/// Whether no two of these names are equal.
+fn are_different(names: &[Option<&str>]) -> bool
+    ensures { result ≡ are_different (map (option_map (λ text. text.now)) names.now) }
+{
+    for at in 0..names.len() {
+        if is_among(names[at], &names[at + 1..]) {
+            return false;
+        }
+    }
+    true
 }
 
 /// A plan by schedules of this turn, where its names are different.
@@ -229,20 +238,19 @@ fn plan_in<'a>(turn: Turn, matches: &ArgMatches<'a>) -> Request<'a>
         tree: value_of(matches, "tree"),
         nodes,
     };
-    if are_different(&asked) {
+    let files = asked.inputs;
+    let names = [
+        Some(files.ship),
+        files.stow,
+        files.own,
+        Some(asked.plan),
+        Some(asked.tree),
+    ];
+    if are_different(&names) {
         Request::Plans(asked)
     } else {
         Request::Usage
     }
-}
-
-/// Whether no two of the names of a list of moves are equal.
-fn are_apart(asked: &MovesAsked<'_>) -> bool
-    ensures { result ≡ are_different (listing (moving asked.now)) }
-{
-    let (arrival, departure) = (Some(asked.arrival), Some(asked.departure));
-    let stow = Some(asked.stow);
-    !(is_same(arrival, departure) || is_same(arrival, stow)) && !is_same(departure, stow)
 }
 
 /// A list of moves, where its names are different.
@@ -254,7 +262,8 @@ fn moves_in<'a>(matches: &ArgMatches<'a>) -> Request<'a>
         departure: value_of(matches, "departure"),
         stow: value_of(matches, "stow"),
     };
-    if are_apart(&asked) {
+    let names = [Some(asked.arrival), Some(asked.departure), Some(asked.stow)];
+    if are_different(&names) {
         Request::Moves(asked)
     } else {
         Request::Usage
@@ -277,6 +286,33 @@ fn odds_in<'a>(matches: &ArgMatches<'a>) -> Request<'a>
             by_tick,
         }),
         _ => Request::Usage,
+    }
+}
+
+/// What is left of a plan, where the names are different.
+fn rest_in<'a>(matches: &ArgMatches<'a>) -> Request<'a>
+    ensures { asked_for result ≡ rest_in (rows_of (found_of matches.now)) }
+{
+    let asked = RestAsked {
+        inputs: followed(matches),
+        new_ship: value_of(matches, "newship"),
+        new_stow: value_of(matches, "newstow"),
+        own: value_of(matches, "own"),
+    };
+    let files = asked.inputs;
+    let names = [
+        Some(files.ship),
+        files.stow,
+        files.plan,
+        files.log,
+        Some(asked.new_ship),
+        Some(asked.new_stow),
+        Some(asked.own),
+    ];
+    if are_different(&names) {
+        Request::Rest(asked)
+    } else {
+        Request::Usage
     }
 }
 
@@ -317,6 +353,7 @@ fn asked_in<'a>(name: CommandName, matches: &ArgMatches<'a>) -> Request<'a>
         CommandName::Report => Request::Reads(Reader::Report, planned(matches)),
         CommandName::Moves => moves_in(matches),
         CommandName::Odds => odds_in(matches),
+        CommandName::Rest => rest_in(matches),
     }
 }
 

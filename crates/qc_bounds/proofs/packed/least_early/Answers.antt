@@ -9,8 +9,8 @@ loop-task-preserved c =
     let f = early_at c.args.node.now.inst c.args.node.now.decisions in
     let before = c.loop-task.least in
     let low : c.loop-task.task-index < length c.args.tasks.now = omega arith in
-    let is = c.sooner.ensures.least ∙ ap (λ (t : ℕ). option_map_or (λ m. min m t) before t) c.early.ensures.tick in
+    let is = c.lesser.ensures.least ∙ ap (λ (t : ℕ). option_map_or (λ m. min m t) before t) c.early.ensures.tick in
     record {
-      so_far = least_more f c.args.tasks.now c.loop-task.task-index before c.sooner.result low c.loop-task.invariant.so_far is;
-      soon = omega (arith, c.sooner.ensures.bound, c.early.ensures.soon);
+      so_far = least_more f c.args.tasks.now c.loop-task.task-index before c.lesser.result low c.loop-task.invariant.so_far is;
+      soon = omega (arith, c.lesser.ensures.bound, c.early.ensures.soon);
     }

@@ -1,29 +1,30 @@
-use Rattle.std.proofs.Common.{◌*◌, ◌-◌, ◌^◌, arith}
-use Rattle.qc_model.specs.Closed.{bays_to}
+use Rattle.std.proofs.Common.{ℕ, ◌-◌, ◌*◌, ◌^◌, ap, arith}
+use Rattle.qc_close.specs.Model.{Frame, bays_to}
 use Rattle.qc_close.specs.Counts.{no_frame}
-use Rattle.qc_close.proofs.SumLemmas.{others_at, rest_more, small_more, some_at, sums_more}
+use Rattle.qc_close.proofs.SumLemmas.{last_falls, last_more, rest_more, small_more}
 use Rattle.qc_close.proofs.sums.most_legs.Goals as goal
 
 pub add_number-requires-clause-sums : goal.add_number-requires-clause-sums
-add_number-requires-clause-sums c = λ n low. omega (arith, c.loop-frame.invariant.small n (omega arith))
+add_number-requires-clause-sums c = λ n low. omega (arith, c.loop-done.invariant.small n (omega arith))
 
-pub loop-frame-preserved : goal.loop-frame-preserved
-loop-frame-preserved c =
+pub add_number-requires-clause-falling : goal.add_number-requires-clause-falling
+add_number-requires-clause-falling c =
+    last_falls (λ (f : Frame). bays_to c.args.way f c.args.to - bays_to c.args.way f c.args.from) c.args.frames.now c.loop-done.done c.loop-done.sums (omega (arith, c.loop-done-test.true)) c.loop-done.invariant.sums c.loop-done.invariant.rest
+
+pub loop-done-preserved : goal.loop-done-preserved
+loop-done-preserved c =
     let all = c.add_number.ensures in
-    let i = c.loop-frame.frame-index in
+    let i = c.loop-done.done in
     let x = c.saturating_sub-bays.result in
-    let some = some_at c.loop-frame.sums c.add_number.new.sums c.loop-frame.count i x c.loop-frame.invariant.count all.some in
-    let others = others_at c.loop-frame.sums c.add_number.new.sums c.loop-frame.count i c.loop-frame.invariant.count all.others in
+    let before = c.loop-done.invariant in
     record {
-      count = omega (arith, c.loop-frame.invariant.count);
-      sums = sums_more c.loop-frame.sums c.add_number.new.sums i x all.none some others
-          (λ f. bays_to c.args.way f c.args.to - bays_to c.args.way f c.args.from) c.args.frames.now no_frame (omega arith)
-          (omega (arith, c.saturating_sub-bays.ensures, c.bays_to.ensures.bays, c.bays_to-in-loop-frame.ensures.bays))
-          c.loop-frame.invariant.sums c.loop-frame.invariant.rest;
-      rest = rest_more c.loop-frame.sums c.add_number.new.sums i x all.none some others c.loop-frame.invariant.rest;
+      sums = last_more (λ (f : Frame). bays_to c.args.way f c.args.to - bays_to c.args.way f c.args.from) c.args.frames.now c.loop-done.sums c.add_number.new.sums i x all.none all.some all.others no_frame
+          (omega (arith, c.loop-done-test.true)) (omega (arith, c.saturating_sub-bays.ensures, c.bays_to.ensures.bays, c.bays_to-in-loop-done.ensures.bays))
+          before.sums before.rest;
+      rest = rest_more c.loop-done.sums c.add_number.new.sums i x all.none all.some all.others before.rest;
       small = λ n few. omega (
         arith,
-        small_more c.loop-frame.sums c.add_number.new.sums i x all.none some others (i * 2 ^ 18) (2 ^ 18)
-            (omega (arith, c.saturating_sub-bays.ensures, c.bays_to.ensures.bound, c.bays_to-in-loop-frame.ensures.bound)) c.loop-frame.invariant.small n few,
+        small_more c.loop-done.sums c.add_number.new.sums i x all.none all.some all.others (i * 2 ^ 18) (2 ^ 18)
+            (omega (arith, c.saturating_sub-bays.ensures, c.bays_to.ensures.bound, c.bays_to-in-loop-done.ensures.bound)) before.small n few,
       );
     }

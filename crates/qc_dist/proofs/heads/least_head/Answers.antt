@@ -13,12 +13,12 @@ loop-k-preserved c =
     let before = c.loop-k.invariant in
     elim c.if-in_reach.branch [
       | then-in_reach w ↦
-          let lesser = λ (t : ℕ). option_map_or (λ m. min m t) c.loop-k.least t in
-          let is = w.sooner.ensures.least ∙ ap lesser w.head.ensures.ticks in
+          let least = λ (t : ℕ). option_map_or (λ m. min m t) c.loop-k.least t in
+          let is = w.lesser.ensures.least ∙ ap least w.head.ensures.ticks in
           let reached = sym c.in_reach.ensures ∙ w.if-in_reach.true in
           record {
-            so_far = w.least-is ∙ least_step f p k c.loop-k.least w.sooner.result before.so_far reached is;
-            bound = rw w.least-is (omega (arith, w.sooner.ensures.bound, w.head.ensures.bound));
+            so_far = w.least-is ∙ least_step f p k c.loop-k.least w.lesser.result before.so_far reached is;
+            bound = rw w.least-is (omega (arith, w.lesser.ensures.bound, w.head.ensures.bound));
           }
       | else-in_reach w ↦ record {
         so_far =

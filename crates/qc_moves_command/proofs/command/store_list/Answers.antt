@@ -3,7 +3,7 @@ use Rattle.std.specs.Io.KnownBytes.{append_known}
 use Rattle.qc_stow.specs.declared.row.Row.{Row}
 use Rattle.qc_changes.specs.ListText.{list_text}
 use Rattle.qc_io.proofs.Pieces.{on_err}
-use Rattle.qc_run.proofs.MadeLemmas.{left_file, made_file, not_through}
+use Rattle.qc_io.proofs.MadeLemmas.{left_file, made_file, not_through}
 use Rattle.qc_moves_command.proofs.command.store_list.Goals as goal
 
 pub returns-in_err-finish-clause-ok : goal.returns-in_err-finish-clause-ok

@@ -9,8 +9,8 @@ loop-task-preserved c =
     let f = head c.args.node.now.inst c.args.node.now.decisions in
     record {
       so_far =
-          least_more f c.args.tasks.now c.loop-task.task-index c.loop-task.least c.earlier.result (omega arith)
+          least_more f c.args.tasks.now c.loop-task.task-index c.loop-task.least c.lesser.result (omega arith)
           c.loop-task.invariant.so_far
-          (c.earlier.ensures.least ∙ ap (λ t. option_map_or (λ n. min n t) c.loop-task.least t) c.lead.ensures.ticks);
-      bound = omega (arith, c.earlier.ensures.bound, c.lead.ensures.bound);
+          (c.lesser.ensures.least ∙ ap (λ t. option_map_or (λ n. min n t) c.loop-task.least t) c.lead.ensures.ticks);
+      bound = omega (arith, c.lesser.ensures.bound, c.lead.ensures.bound);
     }

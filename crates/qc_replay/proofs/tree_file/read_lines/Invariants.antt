@@ -14,7 +14,7 @@ invariant-loop-walk g l = record {
   inst : l.walk.inst ≡ l.fn.walk.inst;
   reading : (g.S.Sink.view l.shelf).reading ≡ true;
   room : HasRoom 240 l.lines.path;
-  few : l.lines.number + lines_left l.walk.reading ≤ 800007;
+  few : l.lines.number + lines_left l.walk.reading ≤ 8000007;
   read : Leads l.fn.walk.inst 1 l.fn.walk.reading
       (prepend_known l.fn.lines.reader (g.S.Sink.view l.fn.shelf).rest) l.lines.number l.walk.reading
       (prepend_known l.lines.reader (g.S.Sink.view l.shelf).rest);

@@ -1,7 +1,7 @@
 use Rattle.std.proofs.Common.{◌∙◌}
 use Rattle.qc_gantt.specs.PlanText.{plan_text}
 use Rattle.qc_io.proofs.Pieces.{on_err}
-use Rattle.qc_search.proofs.StoreLemmas.{held_file, held_left, left_file, made_file, not_through}
+use Rattle.qc_io.proofs.MadeLemmas.{held_file, held_left, left_file, made_file, not_through}
 use Rattle.qc_search.proofs.store.store_plan.Goals as goal
 
 pub returns-in_err-finish-clause-ok : goal.returns-in_err-finish-clause-ok

@@ -2,7 +2,7 @@ use Rattle.std.proofs.Common.{ℕ, ◌<◌, inl, inr, List, length, get_or, refl
 use Rattle.std.proofs.lemmas.Bool.{cases_eq}
 use Rattle.qc_model.specs.declared.pair.Pair.{Pair}
 use Rattle.qc_model.specs.Instance.{InstanceView, pair_of}
-use Rattle.qc_starts.proofs.KeptLemmas.{IsSettledPair, apart_at, settled_at}
+use Rattle.qc_starts.proofs.KeptLemmas.{IsSettledPair, apart_at, pairs_settled}
 use Rattle.qc_starts.proofs.complete.are_settled.Goals as goal
 
 pub settled-requires-clause-first : goal.settled-requires-clause-first
@@ -38,10 +38,8 @@ returns c =
     let inst = c.args.decisions.now.inst in
     let ds = c.args.decisions.now.decisions in
     let e = c.apart-pair-items.ensures.apart ∙ ap (λ (i : InstanceView). i.apart) c.instance.ensures.same in (
-      λ _ i j a.
-          let low : a.0 < c.loop-pair.pair-index = omega (arith, a.1, ap (length {A = Pair}) e) in
-          let found = c.loop-pair.invariant a.0 low in
-          settled_at inst ds i j a
-          (subst (λ (pairs : List Pair). IsSettledPair inst ds (get_or pairs a.0 (pair_of 0 0))) e found),
+      λ _. pairs_settled inst ds (λ k under.
+          let low : k < c.loop-pair.pair-index = omega (arith, under, ap (length {A = Pair}) e) in
+          subst (λ (pairs : List Pair). IsSettledPair inst ds (get_or pairs k (pair_of 0 0))) e (c.loop-pair.invariant k low)),
       λ _. refl,
     )

@@ -3,6 +3,7 @@ use Rattle.qc_io.proofs.WritesLemmas.{writes_cut, writes_then}
 use Rattle.qc_model.specs.declared.pair.Pair.{Pair}
 use Rattle.qc_model.specs.Instance.{pair_of}
 use Rattle.qc_tasks.proofs.report.put_rules.Goals as goal
+use Rattle.qc_model.proofs.NodeLemmas.{pair_listed}
 
 pub put_pairs-requires-clause-tasks : goal.put_pairs-requires-clause-tasks
 put_pairs-requires-clause-tasks g c = λ i j listed.
@@ -10,7 +11,8 @@ put_pairs-requires-clause-tasks g c = λ i j listed.
 
 pub put_pairs-requires-2-clause-tasks : goal.put_pairs-requires-2-clause-tasks
 put_pairs-requires-2-clause-tasks g c = λ i j listed.
-    let range = c.apart.ensures.valid.apart.range i j (subst (λ (pairs : List Pair). Contains pairs (pair_of i j)) c.apart.ensures.apart listed) in
+    let there = subst (λ (pairs : List Pair). Contains pairs (pair_of i j)) c.apart.ensures.apart listed in
+    let range = c.apart.ensures.valid.apart.range i j (pair_listed i j _ there) in
     (omega (arith, range.0, range.1), range.1)
 
 pub returns-in_err-put_pairs : goal.returns-in_err-put_pairs

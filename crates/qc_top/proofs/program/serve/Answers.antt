@@ -7,6 +7,9 @@ returns-in-Make-clause-account g c = rw c.in-Make.is (record { untouched = refl;
 pub returns-in-Odds-clause-account : goal.returns-in-Odds-clause-account
 returns-in-Odds-clause-account g c = rw c.in-Odds.is c.odds.ensures.account
 
+pub returns-in-Rest-clause-account : goal.returns-in-Rest-clause-account
+returns-in-Rest-clause-account g c = rw c.in-Rest.is c.write_rest.ensures.account
+
 pub returns-in-Usage-clause-account : goal.returns-in-Usage-clause-account
 returns-in-Usage-clause-account g c = rw c.in-Usage.is (record { untouched = refl; reports = c.report_stop.ensures.report })
 

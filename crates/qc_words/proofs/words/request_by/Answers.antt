@@ -24,6 +24,7 @@ each_is_simple name.Picture = refl
 each_is_simple name.Report = refl
 each_is_simple name.Moves = refl
 each_is_simple name.Odds = refl
+each_is_simple name.Rest = refl
 
 pub read-requires : goal.read-requires
 read-requires c = ap is_simple_and_free c.in_ok-command_of.ensures ∙ each_is_simple c.args.name

@@ -25,7 +25,7 @@ returns-in-Some-clause-finding c =
     let low = c.requires.near in
     let high = c.in-Some.ensures.near in
     closer_step c.args.self.now.inst c.args.self.now.cranes c.args.tasks.now c.args.before (to_z w32 (of_z w32 c.args.low)) c.in-Some.high
-    c.in-Some.ensures (omega (arith, ints, low.0, low.1), omega (arith, ints, low.0, low.1)) c.lesser.result c.bays_up.result _ c.lesser.ensures
+    c.in-Some.ensures (omega (arith, ints, low.0, low.1), omega (arith, ints, low.0, low.1)) c.lesser.result c.bays_up.result _ c.lesser.ensures.least
     c.bays_up.ensures (omega (arith, ints, high.0, high.1))
 
 pub returns-in-None-clause-found : goal.returns-in-None-clause-found
@@ -39,7 +39,7 @@ returns-in-Some-clause-found c =
     let low = c.requires.near in
     let high = c.in-Some.ensures.near in
     near_from c.args.self.now.inst c.args.self.now.cranes c.args.tasks.now c.args.before c.args.low (to_z w32 (of_z w32 c.args.low))
-    c.in-Some.high (omega (arith, ints, low.0, low.1)) c.in-Some.ensures c.lesser.result c.bays_up.result _ c.lesser.ensures
+    c.in-Some.high (omega (arith, ints, low.0, low.1)) c.in-Some.ensures c.lesser.result c.bays_up.result _ c.lesser.ensures.least
     c.bays_up.ensures (omega (arith, ints, high.0, high.1))
 
 pub reach-requires-clause-below : goal.reach-requires-clause-below

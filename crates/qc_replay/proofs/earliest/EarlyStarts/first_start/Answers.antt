@@ -16,13 +16,13 @@ loop-task-preserved c =
     let is = c.start.ensures.start in
     record {
       so_far = λ starts least.
-          least_more (start_in starts) tasks i c.loop-task.least c.earlier.result c.loop-task-test.true
+          least_more (start_in starts) tasks i c.loop-task.least c.lesser.result c.loop-task-test.true
           (c.loop-task.invariant.so_far starts least)
-          (c.earlier.ensures.least
+          (c.lesser.ensures.least
           ∙ ap (λ t. option_map_or (λ n. min n t) c.loop-task.least t)
           (node_start_is inst ds (get_or tasks i 0) c.start.result low is starts least));
       known = λ _. (is.starts, is.least);
-      bound = omega (arith, c.earlier.ensures.bound, c.start.ensures.bound);
+      bound = omega (arith, c.lesser.ensures.bound, c.start.ensures.bound);
     }
 
 pub returns-clause-first : goal.returns-clause-first

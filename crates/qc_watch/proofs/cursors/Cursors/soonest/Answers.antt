@@ -11,8 +11,8 @@ loop-crane-preserved c =
     elim c.if-next-list.branch [
       | then-next-list w ↦
           subst (λ (o : Option ℕ). IsSoonest lists next (crane + 1) o) (sym w.soonest-is)
-          (soonest_more lists next crane w.sooner.result c.loop-crane.soonest c.loop-crane.invariant
-          (rw c.of-list.ensures.list at w.if-next-list.true) (rw c.of-list.ensures.list at w.sooner.ensures))
+          (soonest_more lists next crane w.lesser.result c.loop-crane.soonest c.loop-crane.invariant
+          (rw c.of-list.ensures.list at w.if-next-list.true) (rw c.of-list.ensures.list at w.lesser.ensures.least))
       | else-next-list w ↦
           subst (λ (o : Option ℕ). IsSoonest lists next (crane + 1) o) (sym w.soonest-is)
           (soonest_same lists next crane c.loop-crane.soonest c.loop-crane.invariant (rw c.of-list.ensures.list at w.if-next-list.false))
