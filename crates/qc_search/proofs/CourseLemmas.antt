@@ -1,5 +1,6 @@
 -- How the rounds of a search come on.
-use Rattle.std.proofs.Common.{◌≡◌, ℕ, ◌+◌, ◌-◌, ◌*◌, ◌<◌, ◌≤◌, ◌⊎◌, inl, inr, Bool, true, false, cond, List, [], length, Option, None, Some, refl, ap, ap₂, sym, subst, ◌∙◌, arith, option_map, IfSome, Ok}
+use Rattle.std.proofs.Common.{◌≡◌, ℕ, ◌+◌, ◌-◌, ◌*◌, ◌<◌, ◌≤◌, ◌⊎◌, inl, inr, nat_le, Bool, true, false, cond, List, [], length, Option, None, Some, refl, ap, ap₂, sym, subst, ◌∙◌, arith, option_map, IfSome, Ok}
+use Rattle.std.proofs.lemmas.Bool.Decides.{leb_tells}
 use Rattle.std.specs.Cmp.Lexicographic.{nat_list_cmp_total, slice_cmp}
 use Rattle.std.specs.FinMap.{get, get-insert, insert}
 use Rattle.std.specs.Ordering.{eq_by_cmp, nat_cmp}
@@ -162,11 +163,12 @@ module _ (home : InstanceView) (start : Progress) (b : IsBegun home start) (limi
     (r : RunsRound home (record start { limit = limit }) new wrote wrote_now told) where
   -- where they may be enough to decide it, it has all branchings
   all_where : branching_limit home ≤ start.limit → limit ≡ start.limit
-  all_where enough = by (length home.tasks ≤? 19)
+  all_where enough = by (leb_tells (length home.tasks) 19)
     where
-      by : (length home.tasks ≤ 19) ⊎ (19 < length home.tasks) → limit ≡ start.limit
-      by (inl low) = whole low
-      by (inr many) = absurd (few_tasks home start.limit b.few enough (omega (arith, many)))
+      by : ((nat_le (length home.tasks) 19 ≡ true) × (length home.tasks ≤ 19))
+          ⊎ ((nat_le (length home.tasks) 19 ≡ false) × (19 < length home.tasks)) → limit ≡ start.limit
+      by (inl low) = whole low.1
+      by (inr many) = absurd (few_tasks home start.limit b.few enough (omega (arith, many.1)))
 
   is_first : IsFirstRound (search_in home start) (round_of home r.tree (record start { limit = limit }) new)
   is_first = record { is = r.is; aim = refl; most = most; whole = all_where }

@@ -147,11 +147,11 @@ fn later_round<S: Shelf>(
 {
     begin_round(order.limit, order.aim, progress);
     shelf.create(name)?;
-    let told = run_round(roots, progress, shelf)?;
-    let shown = keep_better(told.bound, course.shown, shelf)?;
+    let round = run_round(roots, progress, shelf)?;
+    let shown = keep_better(round.bound, course.shown, shelf)?;
     Ok(Course {
         shown,
-        left: course.left - told.branched,
+        left: course.left - round.branched,
     })
 }
 

@@ -1,8 +1,11 @@
 -- inner: the files that are in use.
-use Rattle.std.specs.Prelude.{◌≡◌, ◌++◌, ◌∷◌, [], List}
+use Rattle.std.specs.Prelude.{◌≡◌, ◌≢◌, ◌++◌, ◌∷◌, [], List, Contains, Option, Some}
 use Rattle.qc_system.specs.declared.same.Identity.{Identity}
 
--- one more file is in use
-pub record NotesOne (before after : List Identity) : Type 0 where
-  pub file : Identity
-  pub noted : after ≡ before ++ file ∷ []
+-- this file is in use now too
+abbrev pub NotesOne : List Identity → List Identity → Identity → Type 0
+NotesOne before after file = after ≡ before ++ file ∷ []
+
+-- the file is in use, and isn't the one that may be made again
+abbrev pub IsInUse : List Identity → Option Identity → Identity → Type 0
+IsInUse used again file = Contains used file × (again ≢ Some file)

@@ -4,11 +4,12 @@ ghost use Rattle.std.specs.Io.KnownBytes.{Appends, append_known};
 ghost use Rattle.std.specs.String.{string_bytes};
 ghost use Rattle.qc_io.specs.Writes.{Counts};
 ghost use Rattle.qc_system.specs.Once.{ReadsOnce, WritesOnce};
+ghost use Rattle.qc_system.specs.declared.same.Identity.{Identity};
 ghost use Rattle.qc_system.specs.Used.{NotesOne};
 
 use crate::making::{Making, begun};
 use crate::once::read_once;
-use crate::same::{Identity, note};
+use crate::same::{Finished, Identity, again_as, note};
 use crate::target::target_of;
 use qc_io::{Failed, Shelf, Sink, fault};
 use std::fs;
@@ -18,7 +19,8 @@ use std::rt::Files;
 
 /// The files of the system as a shelf. It tells no file. Each error is a fault, and so is a write that
 /// takes nothing. A file that is made stands beside the one of its name until it is finished. A file that
-/// was opened or finished isn't made again, under whatever name.
+/// was opened or finished isn't made again, under whatever name, but for the one that was finished last, under its
+/// own.
 #[derive(Drop)]
 pub struct FileShelf<'a, R: Files> {
     rt: &'a R,
@@ -26,6 +28,8 @@ pub struct FileShelf<'a, R: Files> {
     making: Option<Making<'a, R>>,
     /// The files that were opened or finished.
     used: Vec<Identity>,
+    /// The file that was finished last.
+    last: Option<Finished>,
     faults: u64,
     read_faults: u64,
     /// Whether only files are opened that can be read twice, as no pipe can.
@@ -44,6 +48,7 @@ impl<'a, R: Files + AllocGlobal> FileShelf<'a, R> {
             reading: None,
             making: None,
             used: Vec::new(rt.alloc()),
+            last: None,
             faults: 0,
             read_faults: 0,
             again: false,
@@ -141,7 +146,8 @@ where
     fn create(&mut self, name: &str) -> Result<(), Failed> {
         self.making = None;
         self.named = String::from_str(self.rt.alloc(), name).ok();
-        match made_by(self.rt, name, self.used.as_slice()) {
+        let again = again_as(&self.last, name);
+        match made_by(self.rt, name, again, self.used.as_slice()) {
             Ok(making) => self.making = Some(making),
             Err(error) => {
                 self.why = Some(error);
@@ -156,7 +162,11 @@ where
             return Ok(());
         };
         match making.finish(&mut self.used) {
-            Ok(()) => Ok(()),
+            Ok(identity) => {
+                let name = making.into_name();
+                self.last = Some(Finished { name, identity });
+                Ok(())
+            }
             Err(error) => {
                 self.why = Some(error);
                 Err(fault(&mut self.faults))
@@ -172,7 +182,7 @@ fn opened<R: Files>(
     again: bool,
     used: &mut Vec<Identity>,
 ) -> io::Result<R::File>
-    ensures { IfOk result (λ _. NotesOne used.old.items used.new.items) }
+    ensures { IfOk result (λ _. (noted : Identity) × NotesOne used.old.items used.new.items noted) }
 {
     if again && !fs::metadata(rt, name)?.is_file() {
         return Err(io::Error::from(ErrorKind::Unsupported));
@@ -182,10 +192,12 @@ fn opened<R: Files>(
     Ok(file)
 }
 
-/// A file of that name that is being made. It fails where it is in use, or can't be made.
+/// A file of that name that is being made. It fails where it is in use and isn't the one that may be made again, or
+/// can't be made.
 fn made_by<'a, R: Files + AllocGlobal>(
     rt: &'a R,
     name: &str,
+    again: Option<Identity>,
     used: &[Identity],
 ) -> io::Result<Making<'a, R>>
 where
@@ -194,5 +206,5 @@ where
     ensures nameless { name.now ≡ [] → IsErr result }
 {
     let target = target_of(rt, name)?;
-    begun(rt, name, target, used)
+    begun(rt, name, target, again, used)
 }

@@ -3,7 +3,7 @@ ghost use Rattle.std.specs.Prelude.{◌≡◌, ◌↔◌, ◌≤◌, ◌<◌, le
 ghost use Rattle.std.specs.Io.KnownBytes.{Appends, append_known};
 ghost use Rattle.qc_io.specs.Writes.{Counts};
 ghost use Rattle.qc_system.specs.Once.{WritesOnce};
-ghost use Rattle.qc_system.specs.Used.{NotesOne};
+ghost use Rattle.qc_system.specs.Used.{IsInUse, NotesOne};
 
 use crate::held::Held;
 use crate::once::write_once;
@@ -44,30 +44,41 @@ impl<R: Files> Drop for Making<'_, R> {
     }
 }
 
+/// Whether a file is in use and isn't the one that may be made again.
+fn is_held(file: Identity, again: Option<Identity>, used: &[Identity]) -> bool
+    ensures { IsTrue result ↔ IsInUse used.now again file }
+{
+    match again {
+        Some(again) => again != file && is_among(file, used),
+        None => is_among(file, used),
+    }
+}
+
 /// Whether the file is there and in use.
-fn is_in_use(found: Option<Found>, used: &[Identity]) -> bool
-    ensures { IfSome found (λ found. IsTrue result ↔ Contains used.now found.identity) }
+fn is_in_use(found: Option<Found>, again: Option<Identity>, used: &[Identity]) -> bool
+    ensures { IfSome found (λ found. IsTrue result ↔ IsInUse used.now again found.identity) }
 {
     match found {
-        Some(found) => is_among(found.identity, used),
+        Some(found) => is_held(found.identity, again, used),
         None => false,
     }
 }
 
-/// Begins a file. It fails where it is in use, or can't be made.
+/// Begins a file. It fails where it is in use and isn't the one that may be made again, or can't be made.
 pub(crate) fn begun<'a, R: Files + AllocGlobal>(
     rt: &'a R,
     name: &str,
     target: Target,
+    again: Option<Identity>,
     used: &[Identity],
 ) -> io::Result<Making<'a, R>>
 where
     R::File: AsFd,
     ensures named { IfOk result (λ making. string_bytes making.name ≡ name.now) }
-    ensures unused { IfSome target.found (λ found. Contains used.now found.identity → IsErr result) }
+    ensures unused { IfSome target.found (λ found. IsInUse used.now again found.identity → IsErr result) }
 {
     let Target { path, found } = target;
-    if is_in_use(found, used) {
+    if is_in_use(found, again, used) {
         return Err(io::Error::from(ErrorKind::ResourceBusy));
     }
     begin_unused(rt, name, path, found)
@@ -157,12 +168,12 @@ impl<R: Files> Making<'_, R> {
     }
 
     /// Gives the file all its bytes, and notes that it is used.
-    fn fill(&mut self, used: &mut Vec<Identity>) -> io::Result<()>
+    fn fill(&mut self, used: &mut Vec<Identity>) -> io::Result<Identity>
         // What waited is in the file.
         ensures fills { IfOk result (λ _. IfSome self.old.held (λ held.
             IfSome self.old.file (λ before. IfSome self.new.file (λ after.
             Appends (R.File.contents before) (R.File.contents after) held.bytes.items)))) }
-        ensures noted { IfOk result (λ _. NotesOne used.old.items used.new.items) }
+        ensures noted { IfOk result (NotesOne used.old.items used.new.items) }
     {
         self.open()?;
         let Some(file) = &mut self.file else {
@@ -187,20 +198,38 @@ impl<R: Files> Making<'_, R> {
         part.put(self.path.as_str())
     }
 
-    /// Puts the file in its place, with all its bytes stored, and notes that it is used.
-    pub(crate) fn finish(&mut self, used: &mut Vec<Identity>) -> io::Result<()>
+    /// Puts the file in its place, with all its bytes stored, and notes that it is used. Answers which file it is.
+    pub(crate) fn finish(&mut self, used: &mut Vec<Identity>) -> io::Result<Identity>
         ensures fills { IfOk result (λ _. IfSome self.old.held (λ held.
             IfSome self.old.file (λ before. IfSome self.new.file (λ after.
             Appends (R.File.contents before) (R.File.contents after) held.bytes.items)))) }
-        ensures noted { IfOk result (λ _. NotesOne used.old.items used.new.items) }
+        ensures noted { IfOk result (NotesOne used.old.items used.new.items) }
     {
         match self.fill(used) {
-            Ok(()) => self.put(),
+            Ok(file) => {
+                self.put()?;
+                Ok(file)
+            }
             Err(error) => {
                 // A new file that isn't filled is closed ahead of its removal.
                 self.file = None;
                 Err(error)
             }
         }
+    }
+
+    /// The name that was asked for. What of the file isn't in its place is let go.
+    pub(crate) fn into_name(self) -> String
+        ensures { result ≡ self.entry.name }
+    {
+        let Making {
+            rt: _,
+            name,
+            path: _,
+            part: _,
+            file: _,
+            held: _,
+        } = self;
+        name
     }
 }

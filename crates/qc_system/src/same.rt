@@ -1,5 +1,5 @@
 //! Which file of the system an open file or a name is.
-ghost use Rattle.std.specs.Prelude.{◌≡◌, ◌↔◌, OnOk, OnErr, IsTrue, Contains};
+ghost use Rattle.std.specs.Prelude.{◌≡◌, ◌↔◌, IfOk, IfSome, IsSomeAnd, OnErr, IsTrue, Contains, string_bytes};
 ghost use Rattle.qc_system.specs.Used.{NotesOne};
 
 use std::fs::{Metadata, OpenFile};
@@ -23,15 +23,15 @@ impl Identity {
     }
 }
 
-/// Adds an open file to the files. It fails, and nothing is added, where the system doesn't tell which file
-/// it is, or where it can't be kept.
-pub(crate) fn note<F: OpenFile>(opened: &F, files: &mut Vec<Identity>) -> io::Result<()>
-    ensures added { OnOk result (NotesOne files.old.items files.new.items) }
+/// Adds an open file to the files, and answers which it is. It fails, and nothing is added, where the system
+/// doesn't tell that, or where it can't be kept.
+pub(crate) fn note<F: OpenFile>(opened: &F, files: &mut Vec<Identity>) -> io::Result<Identity>
+    ensures added { IfOk result (NotesOne files.old.items files.new.items) }
     ensures none { OnErr result (files.new.items ≡ files.old.items) }
 {
     let file = Identity::of(&opened.metadata()?);
     match files.push(file) {
-        Ok(()) => Ok(()),
+        Ok(()) => Ok(file),
         Err(_) => Err(io::Error::from(ErrorKind::OutOfMemory)),
     }
 }
@@ -41,4 +41,22 @@ pub(crate) fn is_among(file: Identity, files: &[Identity]) -> bool
     ensures { IsTrue result ↔ Contains files.now file }
 {
     files.contains(&file)
+}
+
+/// A file that was finished, by the name that was asked for.
+#[derive(Drop)]
+pub(crate) struct Finished {
+    pub(crate) name: String,
+    pub(crate) identity: Identity,
+}
+
+/// Which file may be made again under this name: the one that was finished last, where it has this name.
+pub(crate) fn again_as(last: &Option<Finished>, name: &str) -> Option<Identity>
+    ensures { IfSome result (λ file. IsSomeAnd last.now (λ last.
+        (string_bytes last.name ≡ name.now) × (file ≡ last.identity))) }
+{
+    match last {
+        Some(last) if last.name.as_str() == name => Some(last.identity),
+        _ => None,
+    }
 }
