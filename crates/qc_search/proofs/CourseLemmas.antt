@@ -1,35 +1,37 @@
 -- How the rounds of a search come on.
-use Rattle.std.proofs.Common.{◌≡◌, ℕ, ◌+◌, ◌-◌, ◌*◌, ◌<◌, ◌≤◌, ◌⊎◌, inl, inr, nat_le, Bool, true, false, cond, List, [], length, Option, None, Some, refl, ap, ap₂, sym, subst, ◌∙◌, arith, option_map, IfSome, Ok}
+use Rattle.std.proofs.Common.{◌≡◌, ℕ, ◌+◌, ◌-◌, ◌*◌, ◌<◌, ◌≤◌, ◌⊎◌, inl, inr, nat_le, Bool, true, false, cond, List, [], length, Option, None, Some, refl, ap, ap₂, sym, subst, ◌∙◌, arith, IfOk, IfSome, OnOk, Result, Ok, Err}
 use Rattle.std.proofs.lemmas.Bool.Decides.{leb_tells}
 use Rattle.std.specs.Cmp.Lexicographic.{nat_list_cmp_total, slice_cmp}
 use Rattle.std.specs.FinMap.{get, get-insert, insert}
 use Rattle.std.specs.Ordering.{eq_by_cmp, nat_cmp}
-use Rattle.qc_io.specs.Outside.{Files, View, with_file}
+use Rattle.std.specs.Io.KnownBytes.{append_known}
+use Rattle.qc_io.specs.declared.writing.WriteFault.{WriteFault}
+use Rattle.qc_io.specs.Outside.{Beside, Files, View, begun, beside, finished, with_file}
 use Rattle.qc_io.proofs.Named.{same_files}
 use Rattle.qc_num.specs.declared.bound.Bound.{Bound}
 use Rattle.qc_num.specs.declared.bound.Bound.TheVariants.{Least, Never}
 use Rattle.qc_num.specs.Bounds.{IsAtMost, lesser}
 use Rattle.qc_num.proofs.BoundLemmas.{at_most_never, at_most_same, at_most_through, first_through}
-use Rattle.qc_close.specs.Model.{Slot, InstanceView, Valid, ends, most_branchings, seen_schedule}
+use Rattle.qc_close.specs.Model.{InstanceView, Valid, most_branchings}
 use Rattle.qc_tree.specs.Trees.{NoneEarlier, Tree, tree_branchings, tree_text, tree_value}
 use Rattle.qc_tree.proofs.TreeBound.{tree_bound}
-use Rattle.qc_search.specs.declared.done.Kind.{Kind}
 use Rattle.qc_search.specs.declared.done.Kind.TheVariants.{Budget}
 use Rattle.qc_search.specs.declared.progress.Progress.{Progress}
 use Rattle.qc_search.specs.declared.round.Told.{Told}
 use Rattle.qc_search.specs.declared.rounds.Course.{Course}
 use Rattle.qc_search.specs.Course.{IsCourse, IsHalted, Outdoes, RunsRound, round_of, search_in}
-use Rattle.qc_search.specs.Earned.{TreeNode, tree_nodes}
+use Rattle.qc_search.specs.Earned.{tree_nodes}
 use Rattle.qc_search.specs.Outcome.{IsOutcome}
-use Rattle.qc_search.specs.Progress.{IsBegun, IsKept, IsProgress, WritesTree, bound_end, cutoff, known_best}
-use Rattle.qc_search.specs.Rounds.{HasRun, IsFirstRound, IsRound}
+use Rattle.qc_search.specs.Progress.{IsBegun, IsKept, WritesTree, bound_end, cutoff, known_best}
+use Rattle.qc_search.specs.Rounds.{HasRun, IsFirstRound}
 use Rattle.qc_search.specs.Run.{DoneView, IsRun, IsSound, SearchView, best_end, branching_limit, outcome}
-use Rattle.qc_search.specs.Stored.{IsSearching, IsTreeLeft, IsTreeStored, with_tree}
+use Rattle.qc_search.specs.Stored.{IsTreeLeft, IsTreeStored}
 use Rattle.qc_search.proofs.GivenLemmas.{aims_at, shown_is}
-use Rattle.qc_search.proofs.RoundLemmas.{few_tasks, open_below, ran_decides, ran_first, ran_no_later, ran_on, ran_tree, ran_up, settled}
+use Rattle.qc_search.proofs.RoundLemmas.{few_tasks, ran_decides, ran_first, ran_no_later, ran_on, ran_tree, ran_up, settled}
 use Rattle.qc_search.proofs.RunLemmas.{bound_told, branched_told, decided, done_with, run_is, told_end}
 use Rattle.qc_search.proofs.ShownLemmas.{goes_is, judgeable_is, tight_is}
 use Rattle.qc_search.proofs.StepLemmas.{kept_as}
+use Rattle.qc_search.proofs.StoreLemmas.{made_file}
 use Rattle.qc_search.proofs.TightLemmas.{best_end_is, best_soon}
 
 -- ---- files
@@ -51,6 +53,17 @@ pub file_again : (held : Option Files) (name one two : List ℕ)
     → with_file (with_file held name one) name two ≡ with_file held name two
 file_again None name one two = refl
 file_again (Some files) name one two = ap (λ (f : Files). Some f) (put_again files name one two)
+
+-- what stands where a file that was written is finished or not, said over the shelf before it was begun
+pub outdone : (before created wrote : View) (name text : List ℕ) → created.files ≡ before.files → created.made ≡ Some name
+    → created.written ≡ begun before.files → wrote.written ≡ append_known created.written text
+    → beside wrote ≡ beside created → (shown bound now : Bound) (after : Option Files)
+    → Outdoes shown bound now (after ≡ wrote.files) (after ≡ finished wrote.files wrote.made wrote.written)
+    → Outdoes shown bound now (after ≡ before.files) (after ≡ with_file before.files name text)
+outdone before created wrote name text same made fresh whole stays shown bound now after (inl s) =
+    inl (s.0, s.1, s.2 ∙ ap (λ (b : Beside). b.files) stays ∙ same)
+outdone before created wrote name text same made fresh whole stays shown bound now after (inr p) =
+    inr (p.0, p.1, p.2 ∙ made_file before created wrote name text same made fresh whole stays)
 
 -- ---- the progress of the next round
 
@@ -176,9 +189,6 @@ module _ (home : InstanceView) (start : Progress) (b : IsBegun home start) (limi
   first_few : tree_branchings r.tree ≤ start.limit
   first_few = omega (arith, r.is.run.earned.few, few)
 
-  pub first_left : told.branched ≤ start.limit
-  first_left = omega (arith, r.branched, first_few)
-
   first_ran : HasRun (search_in home start) r.tree (known_best home new) (tree_branchings r.tree)
   first_ran = ran_first (search_in home start) (round_of home r.tree (record start { limit = limit }) new) is_first first_few
 
@@ -203,6 +213,12 @@ module _ (home : InstanceView) (start : Progress) (b : IsBegun home start) (limi
     ran = first_ran;
     files = files;
   }
+
+  pub first_left : (name : List ℕ) (before after : Option Files)
+      → (after ≡ before) ⊎ (after ≡ with_file before name (tree_text home r.tree))
+      → (after ≡ before) ⊎ IsHalted home start name before after
+  first_left name before after (inl same) = inl same
+  first_left name before after (inr put) = inr (first_halted name before after put)
 
 -- under Budget a round spends all its branchings, or shows its aim
 pub round_spent : (home : InstanceView) (old new : Progress) (wrote wrote_now : Option (List ℕ)) (told : Told)
@@ -312,6 +328,10 @@ halted_as home start name before old files course c after same = record {
 
 -- ---- all rounds
 
+at_never : (b : Bound) → IsAtMost Never b → b ≡ Never
+at_never Never h = refl
+at_never (Least end) h = absurd h
+
 module _ (home : InstanceView) (v : Valid home) (start : Progress) (b : IsBegun home start) (name : List ℕ)
     (before : Option Files) (now : Progress) (after : Option Files) (course : Course)
     (c : IsCourse home start name before now after course) where
@@ -339,6 +359,10 @@ module _ (home : InstanceView) (v : Valid home) (start : Progress) (b : IsBegun 
       subst (IsAtMost now.incumbent_end) first_ends
       (subst (λ (e : Bound). IsAtMost e (best_end home (known_best home start))) ends_at
       (ran_no_later search c.tree (known_best home now) c.branched c.ran))
+
+  -- where no end is known behind them, none was before
+  pub never_first : now.incumbent_end ≡ Never → start.incumbent_end ≡ Never
+  never_first e = at_never start.incumbent_end (subst (λ (m : Bound). IsAtMost m start.incumbent_end) e ends_by_first)
 
   pub ran_sound : (outcome course.shown now.incumbent_end ≡ Budget → (course.left ≡ 0) ⊎ IsAtMost start.aim course.shown)
       → IsSound search ran_done
@@ -369,6 +393,25 @@ module _ (home : InstanceView) (v : Valid home) (start : Progress) (b : IsBegun 
     bound = c.shows;
     sound = sound;
   }
+
+-- a file that is begun is forgotten where an end is known, which was known from the first
+pub known_first : (home : InstanceView) (v : Valid home) (start : Progress) → IsBegun home start → (name : List ℕ)
+    (before : Option Files) (now : Progress) (after : Option Files) (result : Result Course WriteFault)
+    → IfOk result (IsCourse home start name before now after) → (start.incumbent_end ≡ Never → ⊥) → (P : Type 0)
+    → OnOk result (now.incumbent_end ≡ Never → P)
+known_first home v start b name before now after (Ok course) c some P =
+    λ e. absurd (some (never_first home v start b name before now after course c e))
+known_first home v start b name before now after (Err fault) c some P = tt
+
+-- what holds of each start holds of this one
+pub at_start : (home : InstanceView) (name : List ℕ) (mid now : Progress) (between after : Option Files) (course : Course)
+    (result : Result Course WriteFault)
+    → IfOk result (λ c. (start : Progress) (before : Option Files)
+    → IsCourse home start name before mid between course → IsCourse home start name before now after c)
+    → (start : Progress) (before : Option Files) → IsCourse home start name before mid between course
+    → IfOk result (IsCourse home start name before now after)
+at_start home name mid now between after course (Ok c) h start before from = h start before from
+at_start home name mid now between after course (Err fault) h start before from = tt
 
 -- what stands in the tree's file, where the shelf tells its files
 pub stored_all : (home : InstanceView) (start : Progress) (name : List ℕ) (before after : Option Files) (tree : Tree)

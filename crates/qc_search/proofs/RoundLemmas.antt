@@ -1,6 +1,6 @@
 -- What the rounds of a search come to, all together.
-use Rattle.std.proofs.Common.{◌≡◌, ◌≢◌, ℕ, ◌+◌, ◌*◌, ◌^◌, ◌<◌, ◌≤◌, ◌⊎◌, inl, inr, All, Contains, List, [], ◌∷◌, max, length, Option, None, Some, refl, ap, sym, subst, ◌∙◌, arith, nat_le, sum_by, mul-le-mul_left}
-use Rattle.std.proofs.Math.Nat.{one-le-pow, pow-le-pow_left, pow-le-pow_right}
+use Rattle.std.proofs.Common.{◌≡◌, ℕ, suc, ◌+◌, ◌*◌, ◌^◌, ◌≤◌, ◌⊎◌, inl, inr, All, Contains, List, [], ◌∷◌, max, length, Option, refl, ap, sym, subst, ◌∙◌, arith, nat_le, mul-le-mul_left}
+use Rattle.std.proofs.Math.Nat.{pow-le-pow_left, pow-le-pow_right}
 use Rattle.std.proofs.lemmas.Bool.{cond_both, leb-true}
 use Rattle.std.proofs.lemmas.List.Elements.{All-cons, All-contains, All-nil}
 use Rattle.std.proofs.lemmas.List.Sums.{sum_by-cons}
@@ -50,7 +50,7 @@ module _ (search : SearchView) where
       (are_trees before earlier are.1)
 
   -- the first of all, behind which no best schedule ends later
-  record HasFirst (newest : Round) (earlier : List Round) : Type 0 where
+  pub record HasFirst (newest : Round) (earlier : List Round) : Type 0 where
     pub main : Round
     pub is_main : IsFirstRound search main
     pub among : Contains (newest ∷ earlier) main
@@ -68,7 +68,7 @@ module _ (search : SearchView) where
       record {
         main = h.main;
         is_main = h.is_main;
-        among = (h.among.0 + 1, omega (arith, h.among.1), h.among.2);
+        among = (suc h.among.0, omega (arith, h.among.1), h.among.2);
         no_later = at_most_through (best_end inst newest.best) (best_end inst before.best) (best_end inst h.main.best)
             are.0.no_later h.no_later;
       }
@@ -157,7 +157,7 @@ module _ (search : SearchView) where
         branched_is = count_more;
         few = omega (arith, room);
         stands = ran.stands;
-        is_one = (ran.is_one.0 + 1, omega (arith, ran.is_one.1), ran.is_one.2);
+        is_one = (suc ran.is_one.0, omega (arith, ran.is_one.1), ran.is_one.2);
         is_tree = ran.is_tree;
         shows_most = All-cons (λ (r : Round). IsAtMost (tree_value inst r.tree) (tree_value inst tree)) round rounds no_more
             ran.shows_most;

@@ -2,7 +2,7 @@
 ghost use Rattle.std.specs.Prelude.{◌≡◌, IfOk};
 ghost use Rattle.qc_io.specs.Outside.{beside};
 ghost use Rattle.qc_io.specs.Writes.{Counts};
-ghost use Rattle.qc_close.specs.Model.{most_branchings};
+ghost use Rattle.qc_close.specs.Model.{Valid};
 ghost use Rattle.qc_num.specs.Bounds.{lesser};
 ghost use Rattle.qc_num.specs.declared.bound.Bound.TheVariants.{Never};
 ghost use Rattle.qc_search.specs.Course.{RunsRound};
@@ -53,7 +53,8 @@ pub(crate) fn run_round<K: Sink>(
     progress: &mut Progress,
     sink: &mut K,
 ) -> Result<Told, WriteFault>
-    requires { IsBegun roots.old progress.old }
+    requires valid { Valid roots.old }
+    requires begun { IsBegun roots.old progress.old }
     ensures stays { roots.new ≡ roots.old }
     ensures ran { IfOk result (RunsRound roots.old progress.old progress.new
         (K.view sink.old).written (K.view sink.new).written) }

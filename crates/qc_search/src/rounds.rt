@@ -4,7 +4,7 @@
 ghost use Rattle.std.specs.Prelude.{◌≡◌, ◌≢◌, ◌<◌, ◌≤◌, ◌+◌, ◌*◌, ◌⊎◌, Option, None, IfOk, IfSome, IsTrue, OnErr, OnOk, length};
 ghost use Rattle.qc_io.specs.Outside.{Files, finished};
 ghost use Rattle.qc_io.specs.Writes.{Counts};
-ghost use Rattle.qc_close.specs.Model.{most_branchings};
+ghost use Rattle.qc_close.specs.Model.{Valid, most_branchings};
 ghost use Rattle.qc_num.specs.declared.bound.Bound.TheVariants.{Never};
 ghost use Rattle.qc_num.specs.Bounds.{IsAtMost, lesser};
 ghost use Rattle.qc_search.specs.declared.done.Kind.TheVariants.{Budget};
@@ -70,6 +70,7 @@ fn first_round<S: Shelf>(
     name: &str,
     shelf: &mut S,
 ) -> Result<Course, WriteFault>
+    requires valid { Valid roots.old }
     requires begun { IsBegun roots.old progress.old }
     ensures stays { roots.new ≡ roots.old }
     ensures ok { IfOk result (IsCourse roots.old progress.old name.now (S.Sink.view shelf.old).files
@@ -126,6 +127,7 @@ fn later_round<S: Shelf>(
     name: &str,
     shelf: &mut S,
 ) -> Result<Course, WriteFault>
+    requires valid { Valid roots.old }
     requires begun { IsBegun roots.old progress.old }
     requires limit { order.limit ≤ course.left }
     requires few { course.left ≤ most_branchings }
@@ -176,6 +178,7 @@ fn aimed_rounds<S: Shelf>(
     name: &str,
     shelf: &mut S,
 ) -> Result<Course, WriteFault>
+    requires valid { Valid roots.old }
     requires begun { IsBegun roots.old progress.old }
     requires few { first.left ≤ most_branchings }
     ensures stays { roots.new ≡ roots.old }
@@ -210,6 +213,7 @@ fn last_round<S: Shelf>(
     name: &str,
     shelf: &mut S,
 ) -> Result<Course, WriteFault>
+    requires valid { Valid roots.old }
     requires begun { IsBegun roots.old progress.old }
     requires few { course.left ≤ most_branchings }
     ensures stays { roots.new ≡ roots.old }
@@ -241,6 +245,7 @@ pub(crate) fn run_rounds<S: Shelf>(
     name: &str,
     shelf: &mut S,
 ) -> Result<Course, WriteFault>
+    requires valid { Valid roots.old }
     requires begun { IsBegun roots.old progress.old }
     ensures stays { roots.new ≡ roots.old }
     ensures ok { IfOk result (IsCourse roots.old progress.old name.now (S.Sink.view shelf.old).files

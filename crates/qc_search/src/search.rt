@@ -163,7 +163,10 @@ impl Search {
         let first = progress.incumbent_end;
         let written = roots.write(&mut progress, sink);
         drop(roots); // by name: proved faster
-        written?;
+        let Ok(()) = written else {
+            drop(progress);
+            return Err(WriteFault);
+        };
         Ok(done_of(progress, first, cranes))
     }
 
