@@ -1,9 +1,8 @@
 -- A list of moves of which those of some tasks are left gives these tasks again, with their releases.
-use Rattle.std.proofs.Common.{◌≡◌, ℕ, ◌+◌, ◌<◌, ◌≤◌, ◌==◌, ◌&&◌, ◌||◌, inl, inr, Bool, true, false, cond, pos, List, [], ◌∷◌, length, map, find, not, Option, Some, Contains, slice_index_or, refl, ap, sym, subst, ◌∙◌, arith}
+use Rattle.std.proofs.Common.{◌≡◌, ℕ, ◌<◌, ◌==◌, ◌&&◌, ◌||◌, inl, inr, Bool, true, false, cond, pos, List, [], ◌∷◌, length, map, find, not, Option, Some, Contains, slice_index_or, refl, ap, sym, subst, ◌∙◌, arith}
 use Rattle.std.specs.List.{filter, flat_map, list_any, zip, AllByRecursion as Each}
 use Rattle.std.specs.Option.{option_map_or}
 use Rattle.std.proofs.lemmas.Bool.{and_from, and_parts, cases_Bool, cases_order, cond-false, cond-true, eq-eqb, eqb-true, false≢true, or_cases, or_left, or_right}
-use Rattle.std.proofs.lemmas.Bool.Decides.{nat_tests}
 use Rattle.std.proofs.lemmas.List.{get_or_default}
 use Rattle.std.proofs.lemmas.List.Elements.{recursion_from_All}
 use Rattle.qc_model.specs.declared.task.Phase.{Phase}
@@ -17,7 +16,7 @@ use Rattle.qc_ship.specs.declared.ship.TaskName.{TaskName}
 use Rattle.qc_ship.specs.Ship.{IsShip, ShipView, highest_bay, lowest_bay, takes}
 use Rattle.qc_stow.specs.declared.row.Row.{Row}
 use Rattle.qc_tasks.specs.InstanceOf.{has_name, is_move_at, is_move_of, is_name_of, moves_at, phase_with, phases, release_at, tasks_at, tasks_of, ticks_in}
-use Rattle.qc_tasks.proofs.Lists.{each_both, each_from, each_weaker, each_zip}
+use Rattle.qc_tasks.proofs.Lists.{each_from, each_weaker, each_zip}
 use Rattle.qc_tasks.proofs.TaskFacts.{takes_once}
 use Rattle.qc_rest_files.specs.LeftRows.{is_move_of_any, left_rows}
 use Rattle.qc_rest_files.specs.RestShip.{is_held, is_named, release_of, releases_of, rest_ship}

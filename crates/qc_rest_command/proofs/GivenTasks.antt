@@ -1,5 +1,5 @@
 -- The ship of what is left and its moves come to the instance of what is left.
-use Rattle.std.proofs.Common.{◌≡◌, ℕ, ◌+◌, ◌<◌, ◌≤◌, ◌==◌, ◌&&◌, ◌||◌, ℤ, inl, inr, Bool, true, false, List, length, map, take, All, refl, ap, sym, subst, ◌∙◌, arith, count_by}
+use Rattle.std.proofs.Common.{◌≡◌, ℕ, ◌+◌, ◌<◌, ◌≤◌, ◌==◌, ◌&&◌, ◌||◌, ℤ, inl, inr, Bool, true, List, length, map, All, refl, ap, sym, subst, ◌∙◌, arith, count_by}
 use Rattle.std.specs.List.{filter, flat_map, list_any, range_with_len, zip, AllByRecursion as Each}
 use Rattle.std.proofs.lemmas.Bool.{and_from, and_parts, cases_order, cond-true, eq-eqb, eqb-true}
 use Rattle.std.proofs.lemmas.List.{length-map, take_all}
@@ -21,12 +21,11 @@ use Rattle.qc_rest.proofs.RestLemmas.{left_count, number_low, task_is}
 use Rattle.qc_rest_files.specs.LeftRows.{is_move_of_any, left_rows}
 use Rattle.qc_rest_files.specs.RestShip.{are_named, is_named, releases_of, rest_ship}
 use Rattle.qc_ship.specs.declared.ship.NamePair.{NamePair}
-use Rattle.qc_ship.specs.declared.ship.TaskName.{TaskName}
 use Rattle.qc_ship.specs.Ship.{IsShip, ShipView}
 use Rattle.qc_stow.specs.declared.row.Row.{Row}
-use Rattle.qc_stow.specs.Moves.{is_discharge, is_load}
+use Rattle.qc_stow.specs.Moves.{is_load}
 use Rattle.qc_stow.proofs.TakenFacts.{list_any-map}
-use Rattle.qc_tasks.specs.InstanceOf.{apart_of, before_of, brings_back, discharges, has_name, instance_of, instance_with, is_apart, is_asked, is_before, is_earlier_phase, is_move_of, names_both, pairs_with, phases, puts_before, release_at, task_at, tasks_at, tasks_of}
+use Rattle.qc_tasks.specs.InstanceOf.{apart_of, before_of, brings_back, discharges, has_name, instance_of, instance_with, is_apart, is_asked, is_before, is_earlier_phase, is_move_of, names_both, pairs_with, phases, puts_before, release_at, tasks_at, tasks_of}
 use Rattle.qc_tasks.proofs.Lists.{any_each, each_filter, each_flat_map, each_map, each_range, each_weaker}
 use Rattle.qc_tasks.proofs.TaskFacts.{IsTaskAt, hatch_are}
 use Rattle.qc_rest_command.proofs.GivenLemmas.{HasHatch, name_of, places_of, released, renewed, same_tests, stays, tasks_again}

@@ -1,5 +1,5 @@
 -- What is known of a rest, beside what it is made of.
-use Rattle.std.proofs.Common.{◌≡◌, ℕ, ◌+◌, ◌-◌, ◌*◌, ◌<◌, ◌≤◌, ◌↔◌, ℤ, pos, negsuc, ◌+ℤ◌, ◌≤ℤ◌, inl, inr, Bool, true, false, List, length, map, Contains, get_or, Option, refl, ap, sym, subst, ◌∙◌, arith}
+use Rattle.std.proofs.Common.{◌≡◌, ℕ, ◌+◌, ◌-◌, ◌*◌, ◌<◌, ◌≤◌, ◌↔◌, ℤ, pos, negsuc, ◌+ℤ◌, ◌≤ℤ◌, inl, inr, false, List, length, map, Contains, get_or, Option, ap, sym, subst, ◌∙◌, arith}
 use Rattle.std.proofs.Math.Nat.{mul-le-mul_left}
 use Rattle.std.proofs.lemmas.Bool.{cases_Bool}
 use Rattle.std.proofs.lemmas.List.Elements.{All-from_recursion}
@@ -40,7 +40,6 @@ use Rattle.qc_run.specs.Inputs.{Names}
 use Rattle.qc_sheet_command.specs.declared.load.Cargo.{Cargo}
 use Rattle.qc_ship.specs.Ship.{IsShip, ShipView, greatest_place, greatest_start, least_start}
 use Rattle.qc_tasks.specs.InstanceOf.{instance_of}
-use Rattle.qc_rest_command.specs.declared.answer.Renewed.{Renewed}
 use Rattle.qc_rest_command.specs.declared.answer.Worked.{Worked}
 use Rattle.qc_rest_command.specs.Plans.{PlansTheWhole}
 use Rattle.qc_rest_command.specs.Worked.{IsWorked}

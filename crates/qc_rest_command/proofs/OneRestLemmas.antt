@@ -5,12 +5,11 @@ use Rattle.std.proofs.Math.Nat.{mul-le-mul_left}
 use Rattle.std.proofs.lemmas.Bool.{cases_Bool, cases_eq, cond-false, cond-true, eq-eqb}
 use Rattle.qc_dispatch.specs.Course.{Course, is_waiting, stage_of}
 use Rattle.qc_dispatch.specs.Journal.{Journal}
-use Rattle.qc_dispatch.specs.Order.{AreTied, Leads, gap}
+use Rattle.qc_dispatch.specs.Order.{Leads, gap}
 use Rattle.qc_dispatch.specs.Promises.{Keeps}
 use Rattle.qc_model.specs.Instance.{Valid, bay_of, ticks_of}
-use Rattle.qc_model.specs.Numbers.{most_ready}
 use Rattle.qc_model.specs.Bays.{bays_between}
-use Rattle.qc_model.specs.Rules.{Feasible, crane_of, start_of}
+use Rattle.qc_model.specs.Rules.{crane_of, start_of}
 use Rattle.qc_model.specs.Ticks.{travel_between}
 use Rattle.qc_model.proofs.Bays.{bays}
 use Rattle.qc_model.proofs.LimitsOf.{travel_of}
@@ -19,11 +18,11 @@ use Rattle.qc_rest.specs.declared.rest.RestError.{RestError}
 use Rattle.qc_rest.specs.declared.rest.RestError.TheVariants as error
 use Rattle.qc_rest.specs.declared.stand.Stand.{Stand}
 use Rattle.qc_rest.specs.Fit.{IsBerth}
-use Rattle.qc_rest.specs.GoneOn.{AreGoneOn, MayGoBy, end_with}
+use Rattle.qc_rest.specs.GoneOn.{AreGoneOn, end_with}
 use Rattle.qc_rest.specs.Places.{ArePlaces, IsHighEnough, IsNextOf, IsTop, LeavesRoom, Outlook, off_of}
 use Rattle.qc_rest.specs.Progress.{AreOver, IsLeft}
 use Rattle.qc_rest.specs.Remaining.{over_at}
-use Rattle.qc_rest.specs.Stands.{AreStands, IsLastOf, IsStand, stand_of}
+use Rattle.qc_rest.specs.Stands.{IsLastOf, IsStand, stand_of}
 use Rattle.qc_rest.specs.Whole.{IsNoRest, IsOutlook, IsRestBy}
 use Rattle.qc_rest.proofs.BegunLemmas.{clear, lasts}
 use Rattle.qc_rest.proofs.FollowLemmas.{left_here}

@@ -1,5 +1,5 @@
 -- The new files are read back as what they were made of.
-use Rattle.std.proofs.Common.{◌≡◌, ◌<◌, ◌^◌, ℕ, List, length, Option, Ok, inl, inr, refl, ap, sym, subst, ◌∙◌, arith}
+use Rattle.std.proofs.Common.{◌≡◌, ℕ, List, length, Option, Ok, inl, inr, refl, ap, sym, subst, ◌∙◌, arith}
 use Rattle.std.proofs.lemmas.Bool.{cases_Bool}
 use Rattle.qc_io.specs.Outside.{Files}
 use Rattle.qc_model.specs.Instance.{InstanceView, Valid}

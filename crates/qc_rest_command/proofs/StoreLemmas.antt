@@ -1,14 +1,14 @@
 -- What is said of the files of what is left, and of why none was made.
-use Rattle.std.proofs.Common.{◌≡◌, ◌∙◌, ℕ, List, Option, Result, Ok, Err, false, true, ap, inl, refl, subst}
-use Rattle.std.specs.Prelude.{OnErr, OnOk, is_err}
+use Rattle.std.proofs.Common.{◌≡◌, ◌∙◌, ℕ, List, Option, Result, Ok, Err, false, true, ap, inl, inr, refl, subst, arith}
+use Rattle.std.specs.Prelude.{OnErr, OnOk, is_err, ⊤}
 use Rattle.qc_io.specs.declared.writing.WriteFault.{WriteFault}
-use Rattle.qc_io.specs.Outside.{Files, Rose, View}
+use Rattle.qc_io.specs.Outside.{Files, Rose, View, with_file}
 use Rattle.qc_run.specs.Inputs.{Replanning}
 use Rattle.qc_rest_command.specs.declared.answer.Renewed.{Renewed}
 use Rattle.qc_rest_command.specs.declared.answer.Renewing.{Renewing}
 use Rattle.qc_rest_command.specs.declared.answer.Renewing.TheVariants as renewing
 use Rattle.qc_rest_command.specs.Account.{IsNoRestTold, IsReady, IsRenewed, IsStopped, Writes}
-use Rattle.qc_rest_command.specs.Stored.{IsLeft, IsListReread, IsOrderReread, MakesAll, texts_of, with_all}
+use Rattle.qc_rest_command.specs.Stored.{IsLeft, IsListReread, IsOrderReread, Makes, MakesAll, NewTexts, texts_of, with_all, with_list}
 use Rattle.qc_rest_command.specs.declared.answer.Worked.{Worked}
 use Rattle.qc_rest_command.specs.declared.reading.Reading.TheVariants as reading
 use Rattle.qc_rest_command.specs.Prepared.{IsNoRestOf}
@@ -45,6 +45,38 @@ module _ {asked : Replanning} {told : Renewed} {text : List ℕ} {before tried :
       stored = made.ok ∙ ap (with_all asked (texts_of told text)) files;
       made = made.unmade;
       faults = made.counts.unfailed ∙ faults;
+    }
+
+-- ---- one file after the other
+
+pub all_made : (asked : Replanning) (texts : NewTexts) (first second third last : View) (u v : ⊤) (result : Result ⊤ WriteFault)
+    → Makes asked.new_ship texts.ship first second (Ok u) → Makes asked.new_stow texts.list second third (Ok v)
+    → Makes asked.own texts.order third last result → MakesAll asked texts first last result
+all_made asked texts first second third last u v (Ok w) ship list order = record {
+  ok = order.ok ∙ ap (λ (f : Option Files). with_file f asked.own texts.order) (list.ok ∙ ap (λ (f : Option Files). with_file f asked.new_stow texts.list) ship.ok);
+  err = tt;
+  unmade = order.unmade;
+  counts = record {
+    unfailed = order.counts.unfailed ∙ list.counts.unfailed ∙ ship.counts.unfailed;
+    rose = tt;
+    never_falls = omega (arith, ship.counts.never_falls, list.counts.never_falls, order.counts.never_falls);
+  };
+  read_faults = order.read_faults ∙ list.read_faults ∙ ship.read_faults;
+}
+all_made asked texts first second third last u v (Err why) ship list order =
+    let two : third.files ≡ with_list asked texts first.files = list.ok ∙ ap (λ (f : Option Files). with_file f asked.new_stow texts.list) ship.ok in record {
+      ok = tt;
+      err = elim order.err [
+        | inl same ↦ inr (inr (inl (same ∙ two)))
+        | inr all ↦ inr (inr (inr (all ∙ ap (λ (f : Option Files). with_file f asked.own texts.order) two)))
+      ];
+      unmade = tt;
+      counts = record {
+        unfailed = tt;
+        rose = subst (λ (n : ℕ). Rose n last.faults) (list.counts.unfailed ∙ ship.counts.unfailed) order.counts.rose;
+        never_falls = omega (arith, ship.counts.never_falls, list.counts.never_falls, order.counts.never_falls);
+      };
+      read_faults = order.read_faults ∙ list.read_faults ∙ ship.read_faults;
     }
 
 -- ---- and from before the files were read
