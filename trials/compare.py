@@ -223,6 +223,10 @@ class Case:
     def plan(self, nodes, least, own=None):
         name, seen = self.searched("plan", nodes, own)
         nodes, given = 20_000 if nodes is None else nodes, given_told(seen[1])
+        if self.goes_on(nodes, given):
+            self.rounds(name, nodes, seen, TreeReader(self.inst, self.read("tree.txt") or b""),
+                        lambda slots: direction_of(self.inst, slots)[1] or (not is_tight(self.inst, slots) or None))
+            return
         judge = SearchJudge(self.inst, nodes, given)
         if own is not None:
             self.counts["plans from one's own"] += 1
@@ -247,6 +251,29 @@ class Case:
         if nodes >= most:
             self.counts["branchings enough for an answer"] += 1
             self.expect(f"{name}: answered", word != "Budget", True)
+
+    def goes_on(self, nodes, given):
+        """Whether a search may go on in rounds, each with an aim and a number of branchings of its own."""
+        return given is not None and nodes >= 8 and len(self.inst.tasks) > 19
+
+    def rounds(self, name, nodes, seen, reader, break_of):
+        """Looks at what the tree, the plan and the report of rounds say together; the tree is read, and not judged."""
+        self.counts["searches that may go on in rounds"] += 1
+        try:
+            reader.read()
+        except TreeFault as fault:
+            self.expect(f"{name}: tree", seen, ("BadTree", fault.kind, fault.line))
+            return
+        told = dict(line.split(" ", 1) for line in seen[1] if " " in line)
+        self.expect(f"{name}: bound", told.get("bound"), str(reader.value))
+        branched = int(told.get("branched", -1))
+        least, most = (nodes, nodes) if seen[1][0] == "Budget" else (reader.branched, nodes)
+        self.expect(f"{name}: branchings", least <= branched <= most, True)
+        slots, fault = read_plan(self.inst, self.read("plan.csv") or b"")
+        self.expect(f"{name}: plan file", fault, None)
+        if not fault:
+            self.expect(f"{name}: end", told.get("end"), str(end_of(self.inst, slots)))
+            self.expect(f"{name}: plan holds", break_of(slots), None)
 
     def counted(self, kind, judge):
         self.counts[f"{kind}nodes judged"] += judge.branched + judge.leaves.total()
@@ -385,6 +412,10 @@ class Case:
         name, seen = self.searched("free", nodes, own)
         nodes, given = 20_000 if nodes is None else nodes, given_told(seen[1])
         self.counts["free from one's own"] += own is not None
+        if self.goes_on(nodes, given):
+            self.rounds(name, nodes, seen, FreeReader(self.inst, self.read("tree.txt") or b"", None),
+                        lambda slots: first_break(self.inst, slots))
+            return True
         judge = SearchJudge(self.inst, nodes, given)
         tree = self.read("tree.txt")
         many = tree is not None and tree.count(b"\n") > 2 * SEARCHED * (1 + len(self.inst.cranes))

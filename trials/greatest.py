@@ -10,6 +10,7 @@ said. Trees that are made here have the most branchings, and one more. It ends w
 came than was wanted, more than 512 MB were taken, or more than a second by `rest`. Which program FILE is, tried.py says.
 """
 import argparse
+import functools
 import runpy
 import subprocess
 import sys
@@ -210,6 +211,7 @@ def limits(room):
         room.expect(f"a log of one line of {LIMIT:,} bytes", words, 17, ["BadLog Line 1"])
 
 
+@functools.cache
 def tree(task, count):
     """The lines of a node and of all below it, so many of which branch: on tasks from this one on, over eight cranes, in
     the first children that have room for it down to the 9th task. Leaves are empty chains."""

@@ -186,7 +186,7 @@ span-of-far-tasks = (refl, refl)
 
 -- Work on deck of 10 ticks ends before that in the hold starts, whoever does it.
 deck-first : (forced stack [] 0 1 ≡ Some 10) × (forced stack [] 1 0 ≡ None) × IsSettled stack [] 1 0
-deck-first = (refl, refl, inr refl)
+deck-first = (refl, refl, refl)
 
 -- To bay 4 the first crane goes 3 bays, and the other at bay 3 misses 3 bays of 2 above it. The second goes 1 bay, and the
 -- first is 3 bays away. While the task has no crane, the lesser counts.
@@ -229,7 +229,7 @@ settled-by-its-cranes = (open_pair split (Assign 0 0 ∷ []) 0 1 refl refl, refl
 -- The higher crane has the higher task, 3 bays away, which are enough; the order asks for 30 ticks.
 left-open-by-its-cranes : ¬ IsSettled split straight 0 1 × (forced split (Order 1 0 ∷ straight) 1 0 ≡ Some 30)
     × IsSettled split (Order 1 0 ∷ straight) 0 1
-left-open-by-its-cranes = (open_pair split straight 0 1 refl refl, refl, inr refl)
+left-open-by-its-cranes = (open_pair split straight 0 1 refl refl, refl, refl)
 
 -- Of 4 bays, bay x is 5 - x from the other end: tasks at 1 and 2, cranes at 1 and 3.
 mirror-of-two-cranes : (bay_of (mirror near) 0 ≡ pos 4) × (bay_of (mirror near) 1 ≡ pos 3)

@@ -12,7 +12,7 @@ use Rattle.qc_dispatch.specs.Promises.{Keeps}
 use Rattle.qc_model.specs.declared.schedule.Slot.{Slot}
 use Rattle.qc_model.specs.Instance.{InstanceView, ticks_of}
 use Rattle.qc_model.specs.Nodes.{free}
-use Rattle.qc_model.specs.Numbers.{most_start}
+use Rattle.qc_model.specs.Numbers.{most_start, most_work}
 use Rattle.qc_model.specs.Rules.{crane_of, no_slot, start_of}
 use Rattle.qc_rest.specs.declared.pass.Pass.{Pass}
 use Rattle.qc_rest.specs.Following.{AreFollowed, MayStartBy, first_start}
@@ -36,7 +36,7 @@ pub record IsOrderFor (c : Course) (starts : List ℕ) (m : ℕ) (order : List S
   pub count : length order ≡ left c
   pub each_one : (j : ℕ) → j < m → IsLeft c j
       → slot_at order (number_of c j) ≡ record { crane = crane_of c.plan j; start = slice_index starts j }
-  pub early : (a : ℕ) → start_of order a ≤ most_start
+  pub early : (a : ℕ) → start_of order a + most_work ≤ most_start
 
 pub left_here : (c : Course) (j : ℕ) → j < length c.inst.tasks → is_waiting (stage_of c j) ≡ true → IsLeft c j
 left_here c j low waits = record { task = low; waits = waits_there (stage_of c j) waits }
@@ -150,7 +150,7 @@ module _ (c : Course) (rest : InstanceView) where
         (ap is_waiting here.waits) (ap is_waiting there.waits)
 
     pub more_order : (m : ℕ) (order : List Slot) (slot : Slot) → IsLeft c m → slot ≡ record { crane = crane_of c.plan m; start = slice_index starts m }
-        → slice_index starts m ≤ most_start → IsOrderFor c starts m order → IsOrderFor c starts (m + 1) (slice_set order (number_of c m) slot)
+        → slice_index starts m + most_work ≤ most_start → IsOrderFor c starts m order → IsOrderFor c starts (m + 1) (slice_set order (number_of c m) slot)
     more_order m order slot is at soon are = record {
       count = length-set order (number_of c m) slot ∙ are.count;
       each_one = λ j low here. elim (cases_eq j m) [

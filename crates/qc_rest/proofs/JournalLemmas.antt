@@ -188,6 +188,9 @@ followed_of inst plan text j followed =
 pub plan_of : (inst : InstanceView) (plan : List Slot) (text : List ℕ) (j : Journal) → IsFollowed inst plan text j → plan ≡ j.course.plan
 plan_of inst plan text j followed = sym (followed_of inst plan text j followed).plan_is
 
+pub inst_of : (inst : InstanceView) (plan : List Slot) (text : List ℕ) (j : Journal) → IsFollowed inst plan text j → inst ≡ j.course.inst
+inst_of inst plan text j followed = sym (followed_of inst plan text j followed).inst_is
+
 pub known_of : (inst : InstanceView) (plan : List Slot) (text : List ℕ) (j : Journal) → IsFollowed inst plan text j → Valid j.course.inst
     → Feasible j.course.inst j.course.plan → Keeps j.course → j.course.clock < past_moments → IsKnown j
 known_of inst plan text j followed valid feasible keeps early =

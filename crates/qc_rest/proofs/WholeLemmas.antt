@@ -8,9 +8,11 @@ use Rattle.qc_dispatch.specs.Following.{journal_of}
 use Rattle.qc_model.specs.declared.schedule.Slot.{Slot}
 use Rattle.qc_model.specs.Instance.{InstanceView, IsOnRail, Valid, bay_of}
 use Rattle.qc_model.specs.Judge.{IsJudgeable}
-use Rattle.qc_model.specs.Rules.{Feasible}
+use Rattle.qc_model.specs.Numbers.{most_start}
+use Rattle.qc_model.specs.Rules.{Feasible, end_of}
 use Rattle.qc_model.proofs.Bays.{bays}
 use Rattle.qc_model.proofs.LimitsOf.{limits_of}
+use Rattle.qc_model.proofs.OnRail.{ticks_bounded}
 use Rattle.qc_rest.specs.declared.rest.RestError.{RestError}
 use Rattle.qc_rest.specs.declared.rest.RestError.TheVariants as error
 use Rattle.qc_rest.specs.declared.stand.Stand.{Stand}
@@ -67,8 +69,13 @@ pub judgeable : (inst : InstanceView) (order : List Slot) → Feasible inst orde
 judgeable inst order feasible early = record {
   all_tasks = feasible.all_tasks;
   crane_range = feasible.crane_range;
-  start_range = λ j low. early.each_one j;
+  start_range = λ j low. omega (arith, early.each_one j);
 }
+
+-- and its ends have few digits, where it is an instance
+pub short_ends : (inst : InstanceView) (order : List Slot) → Valid inst → AreEarlySlots order → (j : ℕ) → j < length inst.tasks
+    → end_of inst order j ≤ most_start
+short_ends inst order valid early j low = omega (arith, early.each_one j, ticks_bounded inst valid j low)
 
 -- ---- the first crane that isn't fit
 

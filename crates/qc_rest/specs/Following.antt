@@ -5,7 +5,7 @@ use Rattle.qc_dispatch.specs.Order.{Leads, gap}
 use Rattle.qc_model.specs.declared.schedule.Slot.{Slot}
 use Rattle.qc_model.specs.Instance.{InstanceView, ticks_of}
 use Rattle.qc_model.specs.Nodes.{free}
-use Rattle.qc_model.specs.Numbers.{most_start}
+use Rattle.qc_model.specs.Numbers.{most_start, most_work}
 use Rattle.qc_model.specs.Rules.{crane_of, start_of}
 use Rattle.qc_rest.specs.Progress.{IsLeft, number_of}
 
@@ -22,6 +22,6 @@ pub record MayStartBy (c : Course) (rest : InstanceView) (starts : List ℕ) (j 
 pub record AreFollowed (c : Course) (rest : InstanceView) (starts : List ℕ) : Type 0 where
   pub each_one : (j : ℕ) → IsLeft c j → (tick : ℕ) → (slice_index starts j ≤ tick) ↔ MayStartBy c rest starts j tick
 
--- no start is later than may be judged
+-- no start is later than may be judged, nor an end, whatever task it is
 pub record AreEarlySlots (order : List Slot) : Type 0 where
-  pub each_one : (a : ℕ) → start_of order a ≤ most_start
+  pub each_one : (a : ℕ) → start_of order a + most_work ≤ most_start

@@ -3,7 +3,8 @@ use Rattle.std.specs.Prelude.{◌≡◌, ℕ, ◌+◌, ◌-◌, ◌<◌, ◌≤�
 use Rattle.qc_dispatch.specs.Journal.{Journal}
 use Rattle.qc_model.specs.Instance.{ticks_of}
 use Rattle.qc_model.specs.Judge.{IsJudgeable}
-use Rattle.qc_model.specs.Rules.{Feasible, ends}
+use Rattle.qc_model.specs.Numbers.{most_start}
+use Rattle.qc_model.specs.Rules.{Feasible, end_of, ends}
 use Rattle.qc_rest.specs.declared.rest.Rest.{Rest}
 use Rattle.qc_rest.specs.declared.rest.RestError.{RestError}
 use Rattle.qc_rest.specs.declared.rest.RestError.TheVariants as error
@@ -43,6 +44,7 @@ pub record IsRestBy (j : Journal) (rest : Rest) : Type 0 where
   pub order : IsOldOrder j.course rest.instance rest.order
   pub feasible : Feasible rest.instance rest.order
   pub judgeable : IsJudgeable rest.instance rest.order
+  pub short : (j : ℕ) → j < length rest.instance.tasks → end_of rest.instance rest.order j ≤ most_start
   pub end : rest.end ≡ ends rest.instance rest.order
   pub last : ℕ
   pub last_is : IsLastGone outlook last

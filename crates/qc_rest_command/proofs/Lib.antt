@@ -1,4 +1,10 @@
 pub mod ReadLemmas
 pub mod NoRestLemmas
+pub mod PartLemmas
+pub mod GivenLemmas
+pub mod GivenTasks
+pub mod KnownLemmas
+pub mod ReadBackLemmas
+pub mod OneRestLemmas
 pub mod StoreLemmas
 pub mod RestLemmas

@@ -5,6 +5,8 @@ use Rattle.qc_dispatch.specs.declared.follow.Followed.{Followed}
 use Rattle.qc_dispatch.specs.Following.{journal_of}
 use Rattle.qc_dispatch.specs.Journal.{IsFaulty, IsFollowed}
 use Rattle.qc_io.specs.Outside.{Files, View}
+use Rattle.qc_dispatch.specs.Promises.{Keeps}
+use Rattle.qc_model.specs.Instance.{Valid}
 use Rattle.qc_model.specs.Rules.{Feasible}
 use Rattle.qc_run.specs.declared.broken.Broken.{Broken}
 use Rattle.qc_run.specs.declared.inputs.Input.TheVariants as input
@@ -19,6 +21,7 @@ use Rattle.qc_run.specs.Steps.{ComesTo, IsStep, MayStop}
 use Rattle.qc_run.proofs.DueLemmas.{stops_from}
 use Rattle.qc_sheet_command.specs.declared.load.Load.{Load}
 use Rattle.qc_sheet_command.specs.Due.{load_due}
+use Rattle.qc_sheet_command.specs.Listed.{IsLoad}
 use Rattle.qc_rest_command.specs.declared.reading.Reading.{Reading}
 use Rattle.qc_rest_command.specs.declared.reading.Reading.TheVariants as reading
 use Rattle.qc_rest_command.specs.Read.{IsRead, IsReadingOf}
@@ -97,11 +100,12 @@ module _ {names : Names} {before mid after : View} {load : Load} (first : IsStep
       read_faults = omega (arith, first.read_faults, second.read_faults);
     }
 
-    pub log_followed : (followed : Followed) → IsFollowed load.cargo.inst load.sched text (journal_of followed)
+    pub log_followed : (followed : Followed) → IsFollowed load.cargo.inst load.sched text (journal_of followed) → IsLoad load
+        → Valid followed.dispatch.inst → Keeps followed.dispatch
         → IsReadingOf names before after (Ok (reading.Worked (record { load = load; followed = followed })))
-    log_followed followed is =
+    log_followed followed is known valid keeps =
         through (Ok (reading.Worked (record { load = load; followed = followed })))
-        (record { due = first.ok.1; feasible = feasible; text = text; log = read; followed = is }) tt tt
+        (record { due = first.ok.1; feasible = feasible; text = text; log = read; followed = is; known = known; valid = valid; keeps = keeps }) tt tt
 
     pub log_refused : IsSome names.log → (fault : DispatchFault) → IsFaulty load.cargo.inst load.sched text fault
         → IsReadingOf names before after (Err (stop.Refused (refusal.BadLog (log.Dispatch fault))))

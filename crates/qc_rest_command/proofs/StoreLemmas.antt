@@ -7,14 +7,15 @@ use Rattle.qc_run.specs.Inputs.{Replanning}
 use Rattle.qc_rest_command.specs.declared.answer.Renewed.{Renewed}
 use Rattle.qc_rest_command.specs.declared.answer.Renewing.{Renewing}
 use Rattle.qc_rest_command.specs.declared.answer.Renewing.TheVariants as renewing
-use Rattle.qc_rest_command.specs.Account.{IsNoRestTold, IsReady, IsStopped, Writes}
-use Rattle.qc_rest_command.specs.Stored.{IsLeft, MakesAll, texts_of, with_all}
+use Rattle.qc_rest_command.specs.Account.{IsNoRestTold, IsReady, IsRenewed, IsStopped, Writes}
+use Rattle.qc_rest_command.specs.Stored.{IsLeft, IsListReread, IsOrderReread, MakesAll, texts_of, with_all}
 use Rattle.qc_rest_command.specs.declared.answer.Worked.{Worked}
 use Rattle.qc_rest_command.specs.declared.reading.Reading.TheVariants as reading
 use Rattle.qc_rest_command.specs.Prepared.{IsNoRestOf}
 use Rattle.qc_rest_command.specs.Read.{IsReadingOf}
 use Rattle.qc_rest_command.specs.Worked.{IsBroken, IsWorked}
 use Rattle.qc_run.specs.declared.no_rest.NoRest.{NoRest}
+use Rattle.qc_rest_command.proofs.ReadBackLemmas.{read_back}
 
 -- ---- what is said of them once all names were tried
 
@@ -32,6 +33,18 @@ module _ {asked : Replanning} {told : Renewed} {text : List ℕ} {before tried :
       ready = ready;
       left = subst (λ (f : Option Files). IsLeft asked (texts_of told text) f after.files) files made.err;
       rose = subst (λ (n : ℕ). Rose n after.faults) faults made.counts.rose;
+    }
+
+    -- all three are whole
+    pub all_stored : MakesAll asked (texts_of told text) tried after (Ok tt) → IsListReread told → IsOrderReread told
+        → IsRenewed asked before after told
+    all_stored made list order = record {
+      text = text;
+      ready = ready;
+      read_back = read_back asked before.files told text ready list order;
+      stored = made.ok ∙ ap (with_all asked (texts_of told text)) files;
+      made = made.unmade;
+      faults = made.counts.unfailed ∙ faults;
     }
 
 -- ---- and from before the files were read
@@ -57,6 +70,7 @@ module _ (asked : Replanning) (before mid after : View) (files : mid.files ≡ b
   over_read (renewing.Renewed told) w = record {
     text = w.text;
     ready = subst (λ (f : Option Files). IsReady asked f told w.text) files w.ready;
+    read_back = w.read_back;
     stored = w.stored ∙ ap (with_all asked (texts_of told w.text)) files;
     made = w.made;
     faults = w.faults ∙ faults;

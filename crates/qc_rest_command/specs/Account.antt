@@ -5,7 +5,6 @@ use Rattle.qc_dispatch.specs.Following.{journal_of}
 use Rattle.qc_io.specs.Outside.{Files, Rose, View}
 use Rattle.qc_rest.specs.declared.rest.RestError.{RestError}
 use Rattle.qc_rest.specs.Whole.{IsNoRest, IsRestBy}
-use Rattle.qc_rest_files.specs.RestShip.{rest_ship}
 use Rattle.qc_rest_files.specs.ShipTable.{ship_table}
 use Rattle.qc_run.specs.declared.no_rest.NoRest.{NoRest}
 use Rattle.qc_run.specs.declared.refusal.Stop.{Stop}
@@ -19,6 +18,7 @@ use Rattle.qc_rest_command.specs.declared.answer.Renewed.{Renewed}
 use Rattle.qc_rest_command.specs.declared.answer.Renewing.{Renewing}
 use Rattle.qc_rest_command.specs.declared.answer.Renewing.TheVariants as renewing
 use Rattle.qc_rest_command.specs.declared.answer.Worked.{Worked}
+use Rattle.qc_rest_command.specs.ReadBack.{AreReadBack, new_ship}
 use Rattle.qc_rest_command.specs.Stored.{IsLeft, texts_of, with_all}
 use Rattle.qc_rest_command.specs.Texts.{TellsNoRest, renewing_status, renewing_text}
 use Rattle.qc_rest_command.specs.Worked.{IsBroken, IsWorked, StopsRest}
@@ -28,20 +28,17 @@ pub record IsNewShip (ship : ShipView) (text : List ℕ) : Type 0 where
   pub document : IsDocumentText false (ship_table ship) text
   pub reads : IsShip ship → ship_file text ≡ Ok ship
 
--- the ship of what is left
-abbrev pub new_ship : Renewed → ShipView
-new_ship told = rest_ship told.worked.load.cargo.ship told.rest.instance
-
 -- the plan was followed by the log, and this is what is left, with the text of its ship file
 pub record IsReady (asked : Replanning) (files : Option Files) (told : Renewed) (text : List ℕ) : Type 0 where
   pub worked : IsWorked asked.inputs files told.worked
   pub rest : IsRestBy (journal_of told.worked.followed) told.rest
   pub ship : IsNewShip (new_ship told) text
 
--- the three files were made, and it is told
+-- the three files were made, each is read back as what it was made of, and it is told
 pub record IsRenewed (asked : Replanning) (before after : View) (told : Renewed) : Type 0 where
   pub text : List ℕ
   pub ready : IsReady asked before.files told text
+  pub read_back : AreReadBack told (texts_of told text)
   pub stored : after.files ≡ with_all asked (texts_of told text) before.files
   pub made : after.made ≡ None
   pub faults : after.faults ≡ before.faults

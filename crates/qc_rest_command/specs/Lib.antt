@@ -1,6 +1,9 @@
 pub mod Worked
 pub mod Texts
 pub mod Stored
+pub mod ReadBack
+pub mod Plans
+pub mod Ends
 pub mod Account
 pub mod Promises
 pub mod Read

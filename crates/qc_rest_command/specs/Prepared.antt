@@ -10,7 +10,8 @@ use Rattle.qc_rest_command.specs.declared.answer.Worked.{Worked}
 use Rattle.qc_rest_command.specs.declared.command.Prepared.{Prepared}
 use Rattle.qc_rest_command.specs.declared.command.Unprepared.{Unprepared}
 use Rattle.qc_rest_command.specs.declared.command.Unprepared.TheVariants as unprepared
-use Rattle.qc_rest_command.specs.Account.{IsNewShip, new_ship}
+use Rattle.qc_rest_command.specs.Account.{IsNewShip}
+use Rattle.qc_rest_command.specs.ReadBack.{new_ship}
 use Rattle.qc_rest_command.specs.Texts.{CanBeTold, TellsNoRest}
 
 -- why what is left can't be planned is told

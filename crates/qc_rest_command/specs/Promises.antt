@@ -9,17 +9,22 @@ use Rattle.qc_run.specs.Broken.{broken_text}
 use Rattle.qc_run.specs.Inputs.{Replanning}
 use Rattle.qc_run.specs.NoRest.{no_rest_text}
 use Rattle.qc_run.specs.Reports.{Prints, PrintsPart}
-use Rattle.qc_run.specs.Told.{IsCutTold, IsRefusal, IsRefusalTold}
+use Rattle.qc_run.specs.Told.{EndsAsDue, IsCutTold, IsRefusal, IsRefusalTold}
 use Rattle.qc_rest_command.specs.declared.answer.Renewed.{Renewed}
 use Rattle.qc_rest_command.specs.Account.{IsNoRestTold, IsReady, IsRenewed, IsRenewing, IsStopped}
+use Rattle.qc_rest_command.specs.Ends.{EndsRest}
+use Rattle.qc_rest_command.specs.Plans.{PlansTheWhole}
+use Rattle.qc_rest_command.specs.ReadBack.{AreReadBack}
 use Rattle.qc_rest_command.specs.Stored.{IsLeft, texts_of}
 use Rattle.qc_rest_command.specs.Texts.{renewed_text, renewing_text}
 use Rattle.qc_rest_command.specs.Worked.{IsBroken}
 
--- the three files hold what is left, and it is told
+-- the three files hold what is left and are read back as it, whoever plans that plans the whole, and it is told
 pub record IsDoneTold (asked : Replanning) (before after out_before out_after : View) : Type 0 where
   pub told : Renewed
   pub renewed : IsRenewed asked before after told
+  pub read_back : AreReadBack told (texts_of told renewed.text)
+  pub plans : PlansTheWhole told
   pub report : Prints (renewed_text told) out_before.written out_after.written
 
 -- what is left can't be planned, and it was printed why
@@ -66,3 +71,5 @@ pub record RestPromises (asked : Replanning) (before after out_before out_after 
   pub refused : IsRefusal ended → IsRefusalTold (IsRenewing asked before after) out_before out_after ended
   pub no_usage : ended ≢ status.Usage
   pub out_of_memory : ended ≡ status.OutOfMemory → Prints (codes "OutOfMemory\n") out_before.written out_after.written
+  -- what is due of the files comes where no call failed, or want of memory does
+  pub complete : EndsAsDue EndsRest asked.inputs before after out_before out_after ended

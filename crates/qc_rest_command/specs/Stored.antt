@@ -1,12 +1,16 @@
 -- public: what the files are with those of what is left.
-use Rattle.std.specs.Prelude.{◌≡◌, ◌⊎◌, ℕ, List, None, Option, Result, OnErr, OnOk, ⊤}
+use Rattle.std.specs.Prelude.{◌≡◌, ◌⊎◌, ℕ, All, IsSome, List, None, Option, Result, Ok, OnErr, OnOk, ⊤}
 use Rattle.qc_changes.specs.ListText.{list_text}
+use Rattle.qc_gantt.specs.Plan.{HasShortEnds, plan_in}
 use Rattle.qc_gantt.specs.PlanText.{plan_text}
 use Rattle.qc_io.specs.declared.writing.WriteFault.{WriteFault}
 use Rattle.qc_io.specs.Outside.{Files, View, with_file}
 use Rattle.qc_io.specs.Writes.{Counts}
 use Rattle.qc_rest_files.specs.LeftRows.{left_rows}
 use Rattle.qc_run.specs.Inputs.{Replanning}
+use Rattle.qc_ship.specs.Ship.{ShipView, place_of_bay}
+use Rattle.qc_stow.specs.declared.row.Row.{Row}
+use Rattle.qc_stow.specs.Stow.{moves_in}
 use Rattle.qc_rest_command.specs.declared.answer.Renewed.{Renewed}
 
 -- the texts of the three files
@@ -15,11 +19,27 @@ pub record NewTexts : Type 0 where
   pub list : List ℕ
   pub order : List ℕ
 
--- the list has the moves of what is left, and the plan the old order; the ship file has this text
+-- the moves of what is left
+abbrev pub new_rows : Renewed → List Row
+new_rows told = left_rows told.rest.instance.tasks told.worked.load.cargo.moves
+
+-- the text of these is read as them, for any ship with a hatch for each move
+abbrev pub IsListReread : Renewed → Type 0
+IsListReread told =
+    (ship : ShipView) → All (λ row. IsSome (place_of_bay ship row.cell.bay)) told.worked.load.cargo.moves
+    → moves_in ship (list_text (new_rows told)) ≡ Ok (new_rows told)
+
+-- the text of the old order is read as it, where its ends have few digits
+abbrev pub IsOrderReread : Renewed → Type 0
+IsOrderReread told =
+    HasShortEnds told.rest.instance told.rest.order
+    → plan_in told.rest.instance (plan_text told.rest.instance told.rest.order) ≡ Ok told.rest.order
+
+-- the list has these, and the plan the old order; the ship file has this text
 abbrev pub texts_of : Renewed → List ℕ → NewTexts
 texts_of told text = record {
   ship = text;
-  list = list_text (left_rows told.rest.instance.tasks told.worked.load.cargo.moves);
+  list = list_text (new_rows told);
   order = plan_text told.rest.instance told.rest.order;
 }
 

@@ -4,6 +4,8 @@ use Rattle.qc_dispatch.specs.declared.fault.DispatchFault.{DispatchFault}
 use Rattle.qc_dispatch.specs.Following.{journal_of}
 use Rattle.qc_dispatch.specs.Journal.{IsFaulty, IsFollowed}
 use Rattle.qc_io.specs.Outside.{Files, View}
+use Rattle.qc_dispatch.specs.Promises.{Keeps}
+use Rattle.qc_model.specs.Instance.{Valid}
 use Rattle.qc_model.specs.Rules.{Feasible}
 use Rattle.qc_run.specs.declared.broken.Broken.{Broken}
 use Rattle.qc_run.specs.declared.inputs.Input.TheVariants as input
@@ -17,6 +19,7 @@ use Rattle.qc_run.specs.Inputs.{Names}
 use Rattle.qc_run.specs.Steps.{ComesTo, Stops}
 use Rattle.qc_sheet_command.specs.declared.load.Load.{Load}
 use Rattle.qc_sheet_command.specs.Due.{load_due}
+use Rattle.qc_sheet_command.specs.Listed.{IsLoad}
 use Rattle.qc_rest_command.specs.declared.answer.Worked.{Worked}
 
 -- the plan is feasible, and its order was followed by the log, which was read whole
@@ -26,6 +29,9 @@ pub record IsWorked (names : Names) (files : Option Files) (worked : Worked) : T
   pub text : List ℕ
   pub log : ComesTo (input_due input.Log) names files (Ok text)
   pub followed : IsFollowed worked.load.cargo.inst worked.load.sched text (journal_of worked.followed)
+  pub known : IsLoad worked.load
+  pub valid : Valid worked.followed.dispatch.inst
+  pub keeps : Keeps worked.followed.dispatch
 
 -- the plan isn't feasible, and the first rule that it breaks is told
 pub record IsBroken (names : Names) (files : Option Files) (told : Broken) : Type 0 where

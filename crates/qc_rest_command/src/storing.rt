@@ -1,12 +1,15 @@
 //! The files of what is left, each whole or as it was.
-ghost use Rattle.std.specs.Prelude.{◌≡◌};
+ghost use Rattle.std.specs.Prelude.{◌≡◌, All, IsSome, Ok, OnOk};
 ghost use Rattle.qc_changes.specs.ListText.{list_text};
+ghost use Rattle.qc_gantt.specs.Plan.{HasShortEnds, plan_in};
 ghost use Rattle.qc_gantt.specs.PlanText.{plan_text};
 ghost use Rattle.qc_io.specs.Writes.{Counts};
 ghost use Rattle.qc_model.specs.Judge.{IsJudgeable};
-ghost use Rattle.qc_rest_command.specs.Stored.{Makes, MakesAll, texts_of};
+ghost use Rattle.qc_rest_command.specs.Stored.{IsListReread, IsOrderReread, Makes, MakesAll, texts_of};
 ghost use Rattle.qc_rest_files.specs.LeftRows.{left_rows};
 ghost use Rattle.qc_run.specs.Inputs.{replanning};
+ghost use Rattle.qc_ship.specs.Ship.{ShipView, place_of_bay};
+ghost use Rattle.qc_stow.specs.Stow.{moves_in};
 
 use crate::answer::Renewed;
 use qc_gantt::write_plan;
@@ -33,8 +36,12 @@ fn store_list<S: Shelf>(
     name: &str,
     shelf: &mut S,
 ) -> Result<(), WriteFault>
-    ensures { Makes name.now (list_text (left_rows inst.now.tasks moves.now))
+    ensures makes { Makes name.now (list_text (left_rows inst.now.tasks moves.now))
         (S.Sink.view shelf.old) (S.Sink.view shelf.new) result }
+    ensures reads { OnOk result ((ship : ShipView)
+        → All (λ row. IsSome (place_of_bay ship row.cell.bay)) moves.now
+        → moves_in ship (list_text (left_rows inst.now.tasks moves.now))
+        ≡ Ok (left_rows inst.now.tasks moves.now)) }
 {
     shelf.create(name)?;
     write_stow(moves, inst, shelf)?;
@@ -50,8 +57,10 @@ fn store_order<S: Shelf>(
     shelf: &mut S,
 ) -> Result<(), WriteFault>
     requires { IsJudgeable inst.now order.now }
-    ensures { Makes name.now (plan_text inst.now order.now)
+    ensures makes { Makes name.now (plan_text inst.now order.now)
         (S.Sink.view shelf.old) (S.Sink.view shelf.new) result }
+    ensures reread { OnOk result (HasShortEnds inst.now order.now
+        → plan_in inst.now (plan_text inst.now order.now) ≡ Ok order.now) }
 {
     shelf.create(name)?;
     write_plan(inst, order, shelf)?;
@@ -79,8 +88,10 @@ pub(crate) fn store_all<S: Shelf>(
     shelf: &mut S,
 ) -> Result<(), WriteFault>
     requires { IsJudgeable told.now.rest.instance told.now.rest.order }
-    ensures { MakesAll (replanning asked.now) (texts_of told.now text.now)
+    ensures makes { MakesAll (replanning asked.now) (texts_of told.now text.now)
         (S.Sink.view shelf.old) (S.Sink.view shelf.new) result }
+    ensures list { OnOk result (IsListReread told.now) }
+    ensures order { OnOk result (IsOrderReread told.now) }
 {
     let rest = &told.rest;
     store_text(text, asked.new_ship, shelf)?;

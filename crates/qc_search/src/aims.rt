@@ -2,27 +2,18 @@
 
 use crate::outcome::is_more;
 use qc_model::Instance;
-use qc_num::{Bound, Tick};
-
-/// The greatest common divisor.
-fn common(one: Tick, other: Tick) -> Tick {
-    let (mut great, mut small) = (one, other);
-    while small != 0 {
-        (great, small) = (small, great % small);
-    }
-    great
-}
+use qc_num::{Bound, Tick, gcd};
 
 /// The greatest number of ticks of which the travel of a bay, all tasks, their releases and all ready times are
 /// multiples.
 fn grain(inst: &Instance) -> Tick {
     let mut ticks = inst.travel();
     for task in inst.tasks() {
-        ticks = common(task.ticks, ticks);
-        ticks = common(task.release, ticks);
+        ticks = gcd(task.ticks, ticks);
+        ticks = gcd(task.release, ticks);
     }
     for crane in inst.cranes() {
-        ticks = common(crane.ready, ticks);
+        ticks = gcd(crane.ready, ticks);
     }
     ticks
 }

@@ -10,14 +10,10 @@ use Rattle.qc_close.specs.Model.{Decision, Slot, Task, Turn, OneWay, Free, GoesB
 use Rattle.qc_model.specs.declared.decision.Decision.TheVariants as decide
 use Rattle.qc_laws.proofs.NodeLemmas.{leaf_le}
 use Rattle.qc_model.proofs.MirrorLemmas.{mirror_valid}
-use Rattle.qc_model.proofs.NodeLemmas.{conflict_turned, unsettled_unordered}
+use Rattle.qc_model.proofs.NodeLemmas.{conflict_turned, settled_turned, unsettled_unordered}
 use Rattle.qc_model.proofs.TurnLemmas.{by_feasible, goes_by}
 use Rattle.qc_tree.specs.Trees.{Holds, IsSecond, IsTree, Leads, Node, NoneEarlier, Sign, Tree, children, leaf, node_value, on_pair, on_task, part_value, sign_value, tree_value}
 use Rattle.qc_tree.proofs.OrderLemmas.{conflict_clear, may_conflict}
-
-other_way : {A B : Type 0} → A ⊎ B → B ⊎ A
-other_way (inl a) = inr a
-other_way (inr b) = inl b
 
 shown_through : (o : Option Bound) (c : Bound) → IsSome o → ((b : Bound) → o ≡ Some b → IsAtMost b c)
     → IsAtMost (unwrap_or o Never) c
@@ -80,7 +76,7 @@ module _ (inst : InstanceView) (v : Valid inst) (sched : List Slot) (g : GoesBy 
       elim (conflict_clear inst v ds sched feasible m.1 i j conflict) [
         | inl sooner ↦ inl (order_fits ds i j m.0 conflict holds.1, (sooner, m.1))
         | inr later ↦
-            let unsettled = λ (s : IsSettled inst ds j i). holds.1 (other_way s) in
+            let unsettled = λ (s : IsSettled inst ds j i). holds.1 (settled_turned inst ds j i s) in
             inr (inl (order_fits ds j i m.0 (conflict_turned inst ds i j conflict) unsettled, (later, m.1)))
       ]
 

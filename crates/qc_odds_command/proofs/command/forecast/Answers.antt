@@ -8,7 +8,7 @@ returns-in-Err-read_past_file-clause-serves g c =
 
 pub returns-in-Ok-simulate-clause-serves : goal.returns-in-Ok-simulate-clause-serves
 returns-in-Ok-simulate-clause-serves g c =
-    rw c.in-Ok-simulate.ensures.view_stays
+    rw c.simulate.ensures.view_stays
     (forecast_told (simulating c.args.asked.now) c.in-Ok.ensures.step c.in_default.ensures.feasible c.in-Ok-read_past_file.ensures _
     (tells_forecast (simulating c.args.asked.now) c.in-Ok-simulate.odds c.in-Ok-simulate.ensures.odds c.requires.some c.in_default.ensures.feasible))
 
@@ -17,7 +17,7 @@ returns-in-Ok-simulate-clause-ready g c =
     forecast_ready (simulating c.args.asked.now) c.in-Ok-simulate.odds c.in-Ok-simulate.ensures.odds c.requires.some
     c.in-Ok.ensures.judgeable c.in-Ok-simulate.ensures.small c.requires.few
 
-pub returns-clause-serves : goal.returns-clause-serves
-returns-clause-serves g c =
+pub returns-in-Err-simulate-clause-serves : goal.returns-in-Err-simulate-clause-serves
+returns-in-Err-simulate-clause-serves g c =
     rw c.simulate.ensures.view_stays
     (forecast_unheld (simulating c.args.asked.now) c.in-Ok.ensures.step c.in_default.ensures.feasible c.in-Ok-read_past_file.ensures)

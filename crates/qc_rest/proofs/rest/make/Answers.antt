@@ -1,7 +1,7 @@
-use Rattle.std.proofs.Common.{◌∙◌, length, refl, ap, arith}
-use Rattle.qc_model.specs.Instance.{InstanceView}
+use Rattle.std.proofs.Common.{◌∙◌, length, refl, ap, sym, subst, arith}
+use Rattle.qc_model.specs.Instance.{InstanceView, Valid}
 use Rattle.qc_rest.specs.Limits.{outlook_of, place_at}
-use Rattle.qc_rest.proofs.WholeLemmas.{exact, feasible_now, judgeable, valid_now}
+use Rattle.qc_rest.proofs.WholeLemmas.{exact, feasible_now, judgeable, short_ends, valid_now}
 use Rattle.qc_rest.proofs.rest.make.Goals as goal
 
 pub instance_of-requires-clause-valid : goal.instance_of-requires-clause-valid
@@ -49,6 +49,8 @@ returns c =
       order = c.in_ok-order.ensures.order;
       feasible = feasible_now f c.args.stands.now c.args.goes.now placed.0 (place_at c.args.places.now) c.requires.known c.requires.none found.stands_are found.goes_are placed.1 _ c.in_ok-instance.ensures _ c.in_ok-order.ensures.order;
       judgeable = judgeable _ _ (feasible_now f c.args.stands.now c.args.goes.now placed.0 (place_at c.args.places.now) c.requires.known c.requires.none found.stands_are found.goes_are placed.1 _ c.in_ok-instance.ensures _ c.in_ok-order.ensures.order) c.in_ok-order.ensures.soon;
+      short = short_ends _ _ (subst Valid (sym c.in_ok-instance.ensures)
+          (valid_now f c.args.stands.now c.args.goes.now placed.0 (place_at c.args.places.now) c.requires.known c.requires.none found.stands_are found.goes_are placed.1 c.requires.fit)) c.in_ok-order.ensures.soon;
       end = c.ends-end.ensures.ends;
       last = c.last_gone.result;
       last_is = record { by = c.last_gone.ensures };

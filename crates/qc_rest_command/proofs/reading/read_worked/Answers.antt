@@ -8,6 +8,7 @@ pub returns-in-Ok-follow_log : goal.returns-in-Ok-follow_log
 returns-in-Ok-follow_log g c =
     log_followed c.in-Ok.ensures.step c.in_default.ensures.feasible c.in-Ok-read_input.ensures c.in-Ok-follow_log.followed
     (rw c.as_slice.ensures at c.in-Ok-follow_log.ensures.following)
+    c.in-Ok.ensures.load c.in-Ok-follow_log.ensures.plan.0 c.in-Ok-follow_log.ensures.keeps
 
 pub returns-in-Err-Fault : goal.returns-in-Err-Fault
 returns-in-Err-Fault g c =

@@ -5,6 +5,7 @@ use Rattle.qc_model.specs.declared.decision.Decision.{Decision}
 use Rattle.qc_model.specs.declared.decision.Decision.TheVariants.{Order}
 use Rattle.qc_model.specs.Instance.{InstanceView}
 use Rattle.qc_model.specs.Nodes.{HasStarts}
+use Rattle.qc_model.proofs.NodeLemmas.{settled_turned}
 use Rattle.qc_starts.specs.Seen.{first_of}
 use Rattle.qc_starts.proofs.KeptLemmas.{first_here}
 use Rattle.qc_sweep.proofs.schedule.put_first.Goals as goal
@@ -20,5 +21,7 @@ go-requires-2-clause-open c =
     let made = c.retract.ensures.decisions ∙ ap (first_of c.mark-mark.result) c.go.ensures.decisions
     ∙ first_here _ _ _ _ refl c.mark-mark.ensures in
     subst₂ (λ (inst : InstanceView) (ds : List Decision). IsOpen inst ds (Order c.args.second c.args.first))
-    (sym (c.retract.ensures.inst ∙ c.go.ensures.inst)) (sym made)
-    (inl (⊎_swap c.requires.apart), λ settled. c.requires.unsettled (⊎_swap settled))
+    (sym (c.retract.ensures.inst ∙ c.go.ensures.inst)) (sym made) (
+      inl (⊎_swap c.requires.apart),
+      λ settled. c.requires.unsettled (settled_turned c.args.starts.now.inst c.args.starts.now.decisions c.args.second c.args.first settled),
+    )
