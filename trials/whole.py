@@ -8,8 +8,9 @@ prints a line for each kind of trial: `ok` or `WRONG`, what was tried, and what 
 - `plan`, also from one's own plan, `free`, `moves` and `rest` are killed at each call of the system by which they open, read,
   write, store, rename or remove a file, without older files and over older ones, and each of these calls fails: each file
   is as before or whole, and none is whole where one that is written ahead of it isn't (TREE is ahead of PLAN; the new ship
-  file, the new list and the old order come in this order); each is stored before it is renamed, and where one of both fails,
-  the status is that of a failed write;
+  file, the new list and the old order come in this order); TREE may also be that of an earlier round of the search, which
+  answers.py takes for the whole tree of a bound; each is stored before it is renamed, and where one of both fails, the
+  status is that of a failed write;
 - the commands that read alone are killed at each of these calls, and each fails: all files are as before;
 - two runs with different ships write the same TREE and PLAN at once, N times (300), `plan` or `free` each: each file is
   one of both, whole;
@@ -35,6 +36,7 @@ import time
 
 sys.dont_write_bytecode = True  # no folder of compiled files beside the scripts
 
+from answers import answer
 from inputs import CHANCES, CHANCES_INPUTS, LEFT, LEFT_INPUTS, LISTED, LISTED_INPUTS, OLDER, OUTPUTS
 from tried import add_program, commands_of, program_of
 
@@ -117,7 +119,13 @@ def calls_of(program, inputs, older, words, others):
         return collections.Counter(re.findall(r"^(\w+)\(", room.read("log").decode(errors="replace"), re.MULTILINE))
 
 
-def judge(left, older, whole, others, outputs):
+def is_of_a_round(command, inputs, tree):
+    """Whether this is the whole tree of a search, as an earlier round leaves it."""
+    files = {"ship": inputs[0], "stow": inputs[1], {"plan": "tree", "free": "freetree"}[command]: tree}
+    return answer({"plan": "check", "free": "freecheck"}[command], files, [], True)[0] == 0
+
+
+def judge(left, older, whole, others, outputs, command, inputs):
     """What a stopped run left, or None where it may not be left: of its files, the first so many are whole."""
     before = {name: OLDER[name] for name in older}
     if any(left.get(name) != data for name, data in others.items()):
@@ -126,6 +134,8 @@ def judge(left, older, whole, others, outputs):
         return None
     states = ["as before" if left.get(name) == before.get(name) else "whole" if left.get(name) == whole[name] else None
               for name in outputs]
+    if command in ("plan", "free") and states == [None, "as before"] and is_of_a_round(command, inputs, left.get("t") or b""):
+        return "tree of a round, plan as before"
     if None in states or sorted(states, reverse=True) != states:
         return None
     return ", ".join(f"{KINDS[name]} {state}" for name, state in zip(outputs, states))
@@ -151,7 +161,7 @@ def kills(program, name, inputs, words, others):
     for older in dict.fromkeys(((), outputs[1:], outputs)):
         seen, bad, kept = collections.Counter(), [], 0
         for call, number, _, left in injected(program, inputs, words, others, older, "signal=KILL"):
-            what = judge(left, older, whole, others, outputs)
+            what = judge(left, older, whole, others, outputs, words[0], inputs)
             kept += any(".part" in one for one in left)
             seen[what] += 1
             if what is None:
@@ -169,7 +179,7 @@ def failures(program, name, inputs, words, others):
     for older in ((), outputs):
         seen, bad = collections.Counter(), []
         for call, number, ran, left in injected(program, inputs, words, others, older, "error=EIO"):
-            what = judge(left, older, whole, others, outputs)
+            what = judge(left, older, whole, others, outputs, words[0], inputs)
             first = (ran.stdout or b"").split(b"\n")[0].split(b" ")[0].decode(errors="replace")
             kinds = {0: done[:1], 3: ("ReadFault",), 4: ("WriteFault", "", *done), 11: ("Budget",), 127: ("",)}
             right = what and first in kinds.get(ran.returncode, ()) and (
@@ -188,8 +198,9 @@ def stored(program, name, inputs, words, others):
     with Room(program, inputs, (), others) as room:
         room.run(words, ["strace", "-o", "log", "-e", "trace=fsync,rename"])
         calls = re.findall(r"^(\w+)\(", room.read("log").decode(errors="replace"), re.MULTILINE)
-    told(f"{name}, what puts its files in their places", calls == ["fsync", "rename"] * len(OUTPUTS[words[0]]),
-         ", ".join(calls))
+    count = len(calls) // 2
+    due = count >= 2 if words[0] in ("plan", "free") else count == len(OUTPUTS[words[0]])  # a tree may be put there by each round
+    told(f"{name}, what puts its files in their places", due and calls == ["fsync", "rename"] * count, ", ".join(calls))
 
 
 def readers(program, inputs, whole):
