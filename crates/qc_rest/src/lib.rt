@@ -1,7 +1,7 @@
 //! Replanning in the middle of work: what is left of a plan, as an instance of its own that begins now.
 //!
 //! `Rest::of` tells it from a log that a dispatcher followed, with the old order as a schedule of it, and why there is
-//! none (`specs/Whole.antt`). No program calls it yet.
+//! none (`specs/Whole.antt`).
 //!
 //! The rest (`specs/RestOf.antt`) has the tasks without a start, released no sooner than what runs and holds them back is
 //! over, and the cranes where they stand by now (`specs/Stands.antt`, `specs/Places.antt`). Whoever plans it
