@@ -1,4 +1,4 @@
-use Rattle.std.proofs.Common.{◌≡◌, ℕ, ◌+◌, ◌-◌, subst, arith}
+use Rattle.std.proofs.Common.{◌≡◌, ℕ, ◌+◌, ◌-◌, ◌∙◌, subst, arith}
 use Rattle.qc_odds.specs.Simulated.{IsSimulated}
 use Rattle.qc_odds.proofs.simulation.simulate.Goals as goal
 
@@ -12,7 +12,10 @@ loop-before-preserved g c =
     let last : c.loop-before.before ≡ c.from.result + 1 - 1 = omega (arith, same) in
     let next : c.from.result + 1 ≡ c.loop-before.before + 1 = omega (arith, same) in
     let is = subst (λ (n : ℕ). IsSimulated past inst plan c.args.seed n room c.loop-before.simulation) last c.loop-before.invariant.runs_are in
-    subst (λ (n : ℕ). IsSimulated past inst plan c.args.seed n room c.run.new.self) next (c.run.ensures inst plan room is)
+    record {
+      runs_are = subst (λ (n : ℕ). IsSimulated past inst plan c.args.seed n room c.run.new.self) next (c.run.ensures inst plan room is);
+      view_stays = c.tell_runs.ensures ∙ c.loop-before.invariant.view_stays;
+    }
 
 pub returns-clause-odds : goal.returns-clause-odds
 returns-clause-odds g c =
