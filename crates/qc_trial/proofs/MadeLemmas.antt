@@ -15,7 +15,7 @@ use Rattle.qc_model.specs.declared.schedule.Slot.{Slot}
 use Rattle.qc_model.specs.Instance.{InstanceView}
 use Rattle.qc_model.specs.Judge.{IsJudgeable}
 use Rattle.qc_model.specs.Rules.{ends}
-use Rattle.qc_search.specs.Run.{DoneView, SearchView}
+use Rattle.qc_search.specs.Run.{DoneView, SearchView, search_from}
 use Rattle.qc_ship.specs.declared.fault.ShipFault.{ShipFault}
 use Rattle.qc_ship.specs.Ship.{ShipView}
 use Rattle.qc_ship.specs.ShipFile.{ship_of}
@@ -45,7 +45,7 @@ use Rattle.qc_run.proofs.StatusLemmas.{stop_is_not}
 use Rattle.qc_run.proofs.ToldLemmas.{cut_told, memory_told, never_usage, of_status, refused_told}
 use Rattle.qc_trial.specs.declared.made.Made.{Made}
 use Rattle.qc_trial.specs.Account.{IsMaking, IsMakingTold, IsTrialRun, TrialPromises}
-use Rattle.qc_trial.specs.Made.{made_due}
+use Rattle.qc_trial.specs.Made.{made_branchings, made_due}
 use Rattle.qc_trial.specs.Stored.{AreStored, IsPlanStored, IsSearchFor}
 use Rattle.qc_trial.specs.Texts.{made_text}
 
@@ -122,7 +122,8 @@ are_stored inst search search_is (Some held) (Some now) after done found_stored 
         came = stored.came;
       };
       tree_stored = record {
-        is_tree = ran_tree search stored.tree done.best done.branched stored.came.ran;
+        is_tree = ran_tree (search_from inst made_branchings search.first) stored.tree done.best done.branched
+            stored.came.ran;
         text = still_there inst stored.tree held now files is done.best refl;
       };
       plan_stored = plan_there inst stored.tree held now files is done.best refl sound.judgeable sound.soon
