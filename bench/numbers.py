@@ -177,7 +177,8 @@ def measure_side(words):
 def beside(program, side, kind, numbers, runs):
     ship, stow = ships.KINDS[kind](*numbers)
     with written(ship=ship, stow=stow) as folder:
-        names = [folder / name for name in ("ship", "stow", "plan", "tree")]
+        # A tree that is written as it stands is that of one round, as C++ searches here.
+        names = [*(folder / name for name in ("ship", "stow", "plan")), pathlib.Path("/dev/null")]
         dump = [sys.executable, ROOT / "trials/reference.py", "--dump", *names[:2]]
         (folder / "numbers").write_bytes(subprocess.run(dump, capture_output=True, check=True).stdout)
         calls = {"first": ("plan", *names, "--nodes", "0"), "plan": ("plan", *names), "free": ("free", *names)}

@@ -5,8 +5,6 @@ from table import usage
 REST = "rest ship.toml stow.csv plan.csv happened.txt newship.toml newstow.csv own.csv"
 WORDS = "qc:     qc rest SHIP STOW PLAN LOG NEWSHIP NEWSTOW OWN"
 NO_FILE = "qc: the system said: No such file or directory (os error 2)"
-AHEAD = ("qc: of NEWSHIP, NEWSTOW and OWN, which are written in this order, those ahead of it may be new, and the others are as "
-         "they were; run it again")
 
 # Eight cranes two hundred metres apart, of which the first goes to the stern's end of the rail.
 FAR_SHIP = "hatches = [2]\nplaces = [6000]\nclear = 2000\ntravel = 1\ndeck_move = 10\nhold_move = 10\n" + "".join(
@@ -65,12 +63,12 @@ WHAT_IS_LEFT = [
           'tick N, done TASK or left TASK N, as done 2-DD'], 17),
     # ---- files that can't be made
     rest("a new ship file in no folder", "tick 5\n", "WriteFault",
-         ["qc: out/ship.toml: this file couldn't be made or written", NO_FILE, AHEAD], 4, REST.replace("newship", "out/ship")),
+         ["qc: out/ship.toml: this file couldn't be made or written", NO_FILE], 4, REST.replace("newship", "out/ship")),
     rest("an old order in no folder", "tick 5\n", "WriteFault",
-         ["qc: out/own.csv: this file couldn't be made or written", NO_FILE, AHEAD], 4, REST.replace("own.csv", "out/own.csv")),
+         ["qc: out/own.csv: this file couldn't be made or written", NO_FILE], 4, REST.replace("own.csv", "out/own.csv")),
     rest("the new list over the list by another path", "tick 5\n", "WriteFault",
          ["qc: ./stow.csv: this file couldn't be made or written",
-          "qc: it is a file that this call has read or made, and no such file is written over", AHEAD], 4,
+          "qc: it is a file that this call has read or made, and no such file is written over"], 4,
          REST.replace("newstow.csv", "./stow.csv")),
     # ---- the words
     usage("rest misspelt", "rests ship.toml stow.csv", ['qc: "rests" is no command; the nearest is rest']),
