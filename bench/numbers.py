@@ -177,7 +177,7 @@ def measure_side(words):
 def beside(program, side, kind, numbers, runs):
     ship, stow = ships.KINDS[kind](*numbers)
     with written(ship=ship, stow=stow) as folder:
-        # A tree that is written as it stands is that of one round, as C++ searches here.
+        # A tree that is written as it stands is that of one round, as C++ searches here; each line is then a call of its own.
         names = [*(folder / name for name in ("ship", "stow", "plan")), pathlib.Path("/dev/null")]
         dump = [sys.executable, ROOT / "trials/reference.py", "--dump", *names[:2]]
         (folder / "numbers").write_bytes(subprocess.run(dump, capture_output=True, check=True).stdout)
