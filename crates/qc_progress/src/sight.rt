@@ -42,16 +42,17 @@ impl ProgressLine {
         }
     }
 
-    /// Sees a line of the tree. Whether it is worth telling: a thousandth branching, or a better plan. As long as it has
-    /// branchings left, a search closes a node by its work at the end of the best plan so far; where no node is closed
-    /// so, a better plan doesn't show.
+    /// Sees a line of the tree. Whether it is worth telling: a thousandth branching, or a better plan. As long as its first
+    /// round has branchings left, which has seven eighths of all at the least, a search closes a node by its work at the end
+    /// of the best plan so far; where no node is closed so, a better plan doesn't show.
     pub(crate) fn sees(&mut self, line: &[u8]) -> bool {
         match line {
             [b'A' | b'O', b' ', ..] => {
                 self.branchings = self.branchings.saturating_add(1);
                 self.branchings % STEP == 0
             }
-            [b'W', b' ', digits @ .., b'\n'] if self.branchings < self.limit => {
+            [b'W', b' ', digits @ .., b'\n']
+                if self.branchings < self.limit.saturating_sub(self.limit / 8) => {
                 self.sees_end(plain_number(digits, DIGITS - 1))
             }
             _ => false,
@@ -135,7 +136,7 @@ mod tests {
     #[test]
     fn tells_a_thousandth_branching_and_a_better_plan(rt: HostRuntime) {
         let mut sight = ProgressLine::new(Outlook {
-            limit: 12_035,
+            limit: 13_754,
             end: Some(27_151),
             bound: Some(26_454),
         });
