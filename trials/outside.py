@@ -538,14 +538,15 @@ def number_in(name, line):
 
 
 def is_search_told(lines):
-    """Whether lines tell of a first plan and then of each thousand branchings of 3,000, ends fall, and the last clears."""
+    """Whether lines tell of a first plan and then of each thousand branchings of the first round of 3,000, ends fall, and the
+    last clears."""
     *lines, last = lines or [b"none"]
     form = re.compile(rb"(first plan|[0-9]{1,3}(,[0-9]{3})* branchings)(, end [0-9,]+)?(, bound [0-9,]+)?")
     ends = [end for end in (number_in(b"end", line) for line in lines) if end is not None]
     begun = [line.startswith(b"first plan") for line in lines]
     return (last == b"" and all(form.fullmatch(line) for line in lines) and ends == sorted(ends, reverse=True)
             and begun == sorted(begun, reverse=True) and begun[:1] == [True]
-            and all(any(line.startswith(b"%d,000 branchings, end " % n) for line in lines) for n in (1, 2, 3)))
+            and all(any(line.startswith(b"%d,000 branchings, end " % n) for line in lines) for n in (1, 2)))
 
 
 def terminals():
