@@ -1,9 +1,9 @@
 //! The container that an EQD tells.
 
-ghost use Rattle.std.specs.Prelude.{◌≡◌, ◌++◌, ◌<◌, ◌≤◌, ◌∷◌, [], length, codes, IfOk, OnOk};
+ghost use Rattle.std.specs.Prelude.{◌≡◌, ◌++◌, ◌<◌, ◌∷◌, [], codes, IfOk, OnOk};
 ghost use Rattle.qc_num.specs.Reading.{IsReading};
 ghost use Rattle.qc_ship.specs.Cells.{cell_text};
-ghost use Rattle.qc_bayplan.specs.Containers.{container_at, fits, id_of, is_size, is_unnamed, judged, left_free, next_container, own_id, size_of};
+ghost use Rattle.qc_bayplan.specs.Containers.{container_at, fits, is_size, judged, left_free, next_container, own_id, size_of};
 ghost use Rattle.qc_bayplan.specs.Plan.{IsContainer};
 ghost use Rattle.qc_bayplan.specs.Taken.{IsKept, taken_by};
 

@@ -1,9 +1,9 @@
 //! Where a file stands between two segments.
 
-ghost use Rattle.std.specs.Prelude.{◌≡◌, ◌+◌, ◌-◌, ◌<◌, ◌≤◌, Ok, IfOk, ◌^◌};
+ghost use Rattle.std.specs.Prelude.{◌≡◌, ◌+◌, ◌-◌, ◌<◌, ◌≤◌, Ok, IfOk};
 ghost use Rattle.qc_num.specs.Reading.{IsReading};
 ghost use Rattle.qc_edifact.specs.Cuts.{part_of};
-ghost use Rattle.qc_bayplan.specs.Courses.{and_other, begun, beginning, closed, course_behind, ended, equipped, finished, free_place, has_container, is_container, is_number, is_other, is_partial, located, one_if, opened, others_at, told, with_container, with_other};
+ghost use Rattle.qc_bayplan.specs.Courses.{and_other, begun, beginning, closed, course_behind, ended, equipped, finished, free_place, has_container, is_container, is_number, is_other, is_partial, located, others_at, told, with_container, with_other};
 ghost use Rattle.qc_bayplan.specs.Taken.{HasCounts};
 
 use crate::fault::{BayPlanKind, KindError};

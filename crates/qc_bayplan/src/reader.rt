@@ -1,12 +1,11 @@
 //! Reading a bay plan.
 
-ghost use Rattle.std.specs.Prelude.{◌≡◌, ◌++◌, ◌+◌, ◌<◌, [], length, option_to_list, IfOk, OnOk};
-ghost use Rattle.qc_num.specs.Reading.{IsReading, with_fault};
-ghost use Rattle.qc_num.specs.declared.read_error.ReadError.{ReadError};
+ghost use Rattle.std.specs.Prelude.{◌≡◌, ◌++◌, ◌+◌, ◌<◌, [], length, option_to_list, OnOk};
+ghost use Rattle.qc_num.specs.Reading.{IsReading};
 ghost use Rattle.qc_num.specs.declared.read_error.ReadError.TheVariants.{Fault};
 ghost use Rattle.qc_bayplan.specs.Courses.{beginning};
 ghost use Rattle.qc_bayplan.specs.Plan.{AreContainers};
-ghost use Rattle.qc_bayplan.specs.Reading.{bay_plan_in, error_at, fault_at, plan_from, plan_of};
+ghost use Rattle.qc_bayplan.specs.Reading.{bay_plan_in, error_at, plan_from, plan_of};
 
 use crate::course::Course;
 use crate::fault::{BayPlanError, BayPlanFault, BayPlanKind, KindError};

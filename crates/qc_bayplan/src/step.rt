@@ -1,8 +1,7 @@
 //! One segment: the course behind it, and the container that it tells.
 
-ghost use Rattle.std.specs.Prelude.{◌≡◌, ◌++◌, ◌+◌, ◌<◌, ◌≤◌, length, option_to_list, IfOk, IfSome};
+ghost use Rattle.std.specs.Prelude.{◌≡◌, ◌++◌, ◌+◌, ◌<◌, option_to_list, IfOk};
 ghost use Rattle.qc_num.specs.Reading.{IsReading};
-ghost use Rattle.qc_edifact.specs.Segments.{Entry};
 ghost use Rattle.qc_bayplan.specs.Reading.{container_place, found_in, found_containers, next_step, segment_in, step_by, step_of, step_to};
 ghost use Rattle.qc_bayplan.specs.Taken.{HasCounts, HasRisen, IsKept};
 

@@ -4,8 +4,7 @@ ghost use Rattle.std.specs.Prelude.{◌≡◌, [], ◌++◌, map, List, filter, 
 ghost use Rattle.std.specs.List.Sorted.{IsPermutation, IsNonDecreasingBy};
 ghost use Rattle.qc_ship.specs.Cells.{CellView};
 ghost use Rattle.qc_stow.specs.declared.row.Move.{Move};
-ghost use Rattle.qc_bayplan.specs.declared.plan.Container.{Container};
-ghost use Rattle.qc_changes.specs.Classes.{AreLifted, cells_of, changed, chosen, is_still};
+ghost use Rattle.qc_changes.specs.Classes.{cells_of, changed, is_still};
 ghost use Rattle.qc_changes.specs.Floors.{IsFloor, known};
 ghost use Rattle.qc_changes.specs.Lifts.{IsLiftedFloor, Lifts};
 ghost use Rattle.qc_changes.specs.MoveList.{row_of};

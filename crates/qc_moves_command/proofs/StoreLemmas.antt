@@ -1,5 +1,5 @@
 -- What a list of moves leaves in its file, said from before its plans were read.
-use Rattle.std.proofs.Common.{◌≡◌, ◌∙◌, ℕ, Option, Result, Ok, Err, ap, inl, inr, subst, sym}
+use Rattle.std.proofs.Common.{◌≡◌, ◌∙◌, ℕ, Option, Ok, ap, inl, inr, subst, sym}
 use Rattle.qc_changes.specs.Changes.{ChangesView}
 use Rattle.qc_changes.specs.ListText.{list_text}
 use Rattle.qc_io.specs.Outside.{Files, Rose, View, with_file}

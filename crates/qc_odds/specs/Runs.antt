@@ -1,5 +1,5 @@
 -- public: what a run of a plan tells of cranes and tasks.
-use Rattle.std.specs.Prelude.{ℕ, ◌+◌, ◌-◌, max, min, Bool, ◌&&◌, ◌==◌, nat_lt, if◌then◌else◌, List, [], length, map, slice_index, slice_set, sum_by}
+use Rattle.std.specs.Prelude.{ℕ, ◌+◌, ◌-◌, max, min, Bool, ◌&&◌, ◌==◌, nat_lt, if◌then◌else◌, List, length, map, slice_index, slice_set, sum_by}
 use Rattle.std.specs.List.{range_with_len}
 use Rattle.qc_model.specs.declared.schedule.Slot.{Slot}
 use Rattle.qc_model.specs.Instance.{InstanceView, bay_of, ticks_of}

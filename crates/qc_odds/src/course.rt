@@ -1,6 +1,6 @@
 //! A plan that is tried with other lengths each time.
 
-ghost use Rattle.std.specs.Prelude.{◌≡◌, ◌≤◌, IfOk, length, replicate};
+ghost use Rattle.std.specs.Prelude.{◌≡◌, ◌≤◌, IfOk, length};
 ghost use Rattle.qc_model.specs.Rules.{Feasible};
 ghost use Rattle.qc_dispatch.specs.Marks.{AreMarks};
 ghost use Rattle.qc_odds.specs.Course.{AreStarts, IsLastEnd};

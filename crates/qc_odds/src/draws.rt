@@ -1,6 +1,6 @@
 //! Numbers drawn by seed, run and text.
 
-ghost use Rattle.std.specs.Prelude.{◌≡◌, ◌<◌, ◌^◌};
+ghost use Rattle.std.specs.Prelude.{◌≡◌};
 ghost use Rattle.qc_odds.specs.Draws.{draw, mix, next_state, quadratic, swapped, with_byte};
 
 /// The multiplier and the increment of a linear congruential generator of 64 bits (Knuth).

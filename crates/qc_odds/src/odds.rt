@@ -1,9 +1,8 @@
 //! What many runs of a plan come to.
 
-ghost use Rattle.std.specs.Prelude.{◌≡◌, ℕ, ◌+◌, ◌<◌, ◌≤◌, [], ◌∷◌, ◌++◌, IfOk, List, OnOk, length, replicate, vec_capacity};
+ghost use Rattle.std.specs.Prelude.{◌≡◌, ◌<◌, ◌≤◌, [], IfOk, OnOk, length, replicate, vec_capacity};
 ghost use Rattle.std.specs.List.Sorted.{IsPermutation, IsSorted};
 ghost use Rattle.std.specs.Ordering.{nat_cmp};
-ghost use Rattle.qc_odds.specs.Critical.{AreMarked};
 ghost use Rattle.qc_odds.specs.Lengths.{AreLengths};
 ghost use Rattle.qc_odds.specs.Moments.{AreSoon};
 ghost use Rattle.qc_odds.specs.Sums.{no_crane_sum, no_task_sum};

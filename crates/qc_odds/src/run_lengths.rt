@@ -1,6 +1,6 @@
 //! The lengths that tasks take in a run.
 
-ghost use Rattle.std.specs.Prelude.{◌≡◌, ◌+◌, ◌*◌, ◌<◌, ◌≤◌, All, length};
+ghost use Rattle.std.specs.Prelude.{◌≡◌, ◌*◌, ◌≤◌, All, length};
 ghost use Rattle.std.specs.Int.{div_ceil};
 ghost use Rattle.qc_model.specs.declared.limits.TheConstants.{MOST_WORK};
 ghost use Rattle.qc_model.specs.Tasks.{task_text};

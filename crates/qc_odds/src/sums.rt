@@ -1,7 +1,6 @@
 //! What many runs come to, in all, for each crane and each task.
 
 ghost use Rattle.std.specs.Prelude.{◌≡◌, ℕ, ◌+◌, ◌*◌, ◌<◌, ◌≤◌, length, slice_index_or};
-ghost use Rattle.qc_odds.specs.Critical.{is_marked};
 ghost use Rattle.qc_odds.specs.Lengths.{AreLengths, most_length};
 ghost use Rattle.qc_odds.specs.Moments.{AreSoon, most_end, most_held};
 ghost use Rattle.qc_odds.specs.Runs.{over};

@@ -6,7 +6,7 @@ ghost use Rattle.csv.specs.Records.{fields_of};
 ghost use Rattle.qc_num.specs.Reading.{IsReading, each};
 ghost use Rattle.qc_num.specs.declared.read_error.ReadError.TheVariants.{Fault};
 ghost use Rattle.qc_past.specs.Past.{IsPastTask, is_of, most_past};
-ghost use Rattle.qc_past.specs.PastFile.{beside, ends_with, next_task, past_in, past_of, task_after, tasks_of};
+ghost use Rattle.qc_past.specs.PastFile.{beside, ends_with, next_task, past_in, task_after, tasks_of};
 
 use crate::fault::{PastError, PastFault, PastKind};
 use crate::fields::is_header;

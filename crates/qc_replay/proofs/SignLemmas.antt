@@ -1,6 +1,6 @@
 -- The line of a node: where it is accepted it says something that holds, and what holds is accepted.
-use Rattle.std.proofs.Common.{◌≡◌, ℕ, ◌+◌, ◌-◌, ◌*◌, ◌<◌, ◌≤◌, ◌^◌, Bool, true, false, ◌&&◌, cond, List, [], ◌∷◌, ◌++◌, length, map, All, Option, None, Some, IfSome, IsSome, inl, inr, refl, ap, ap₂, sym, ◌∙◌, arith, Err, Ok, Result, decimal, is_none, is_some, nat_le, nat_lt, not, ok_or, option_and_then, option_map, unwrap_or}
-use Rattle.std.proofs.lemmas.Bool.{and_from, and_parts, cond_both, false≢true, le-leb, leb-true, lt-ltb, ltb-true, not-true, or_left, or_right, false_from_ne_true}
+use Rattle.std.proofs.Common.{◌≡◌, ℕ, ◌+◌, ◌-◌, ◌*◌, ◌<◌, ◌≤◌, ◌^◌, Bool, true, false, ◌&&◌, cond, List, [], ◌∷◌, ◌++◌, length, map, All, Option, None, Some, IfSome, IsSome, refl, ap, ap₂, sym, ◌∙◌, arith, Err, Ok, Result, decimal, is_none, is_some, nat_le, nat_lt, not, ok_or, option_and_then, option_map, unwrap_or}
+use Rattle.std.proofs.lemmas.Bool.{and_from, and_parts, cond_both, false≢true, le-leb, leb-true, lt-ltb, ltb-true, not-true, false_from_ne_true}
 use Rattle.std.proofs.lemmas.Fmt.{length-decimal-le}
 use Rattle.std.proofs.lemmas.List.{length-append, length-map}
 use Rattle.std.proofs.lemmas.List.Elements.{All-cons, All-nil}
@@ -13,7 +13,7 @@ use Rattle.qc_num.specs.Bounds.{lesser}
 use Rattle.qc_num.specs.Reading.{◌>>=◌, require}
 use Rattle.qc_num.proofs.BoundLemmas.{lesser_never}
 use Rattle.qc_num.proofs.ReadingLemmas.{same_ok}
-use Rattle.qc_close.specs.Model.{Decision, Direction, InstanceView, Valid, cranes_of, Leaf, are_tasks, chain, is_ring, leaf_value, packed, reach, ring, work, work_over, crane_numbers, early, Fits, IsSettled, assigned, forced, least, most_branchings, most_tasks, pack, is_settled}
+use Rattle.qc_close.specs.Model.{Decision, Direction, InstanceView, Valid, cranes_of, Leaf, are_tasks, chain, is_ring, leaf_value, packed, reach, ring, work, work_over, crane_numbers, early, Fits, IsSettled, assigned, least, most_branchings, most_tasks, pack, is_settled}
 use Rattle.qc_model.specs.declared.decision.Decision.TheVariants as decide
 use Rattle.qc_model.proofs.NodeLemmas.{conflict_inside}
 use Rattle.qc_close.proofs.PackBounds.{packed_listed, some_packed}

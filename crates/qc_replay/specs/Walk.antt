@@ -1,11 +1,11 @@
 -- public: what a tree's file shows, line by line, or its first fault.
-use Rattle.std.specs.Prelude.{ℕ, ◌+◌, ◌-◌, Bool, true, false, not, ◌&&◌, ◌||◌, ◌==◌, nat_lt, nat_le, if◌then◌else◌, List, [], ◌∷◌, ◌++◌, map, length, drop, Option, Some, is_none, is_some, Result, Ok, Err, ok_or, ⊤}
-use Rattle.std.specs.List.{list_all, list_any, slice_split}
+use Rattle.std.specs.Prelude.{ℕ, ◌+◌, ◌-◌, Bool, true, false, not, ◌&&◌, ◌||◌, ◌==◌, nat_lt, nat_le, if◌then◌else◌, List, [], ◌∷◌, ◌++◌, map, length, drop, Option, Some, is_none, Result, Ok, Err, ok_or, ⊤}
+use Rattle.std.specs.List.{list_all, slice_split}
 use Rattle.qc_num.specs.declared.bound.Bound.{Bound}
 use Rattle.qc_num.specs.declared.bound.Bound.TheVariants.{Never}
 use Rattle.qc_num.specs.Bounds.{lesser, is_bound}
 use Rattle.qc_num.specs.Reading.{◌>>=◌, require, with_fault}
-use Rattle.qc_close.specs.Model.{Decision, Direction, Turn, InstanceView, chain, packed, ring, reach, work, leaf_value, crane_numbers, assigned, forced, most_branchings, seen, task_distance, is_apart, is_settled}
+use Rattle.qc_close.specs.Model.{Decision, Direction, Turn, InstanceView, chain, packed, ring, reach, work, leaf_value, crane_numbers, assigned, most_branchings, seen, task_distance, is_apart, is_settled}
 use Rattle.qc_model.specs.declared.decision.Decision.TheVariants as decide
 use Rattle.qc_model.specs.declared.direction.Direction.TheVariants as way
 use Rattle.qc_model.specs.declared.turn.Turn.TheVariants as turn

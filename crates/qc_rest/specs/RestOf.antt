@@ -1,6 +1,6 @@
 -- public: the instance of the rest, made of what is left.
-use Rattle.std.specs.Prelude.{ℕ, ◌-◌, max, Bool, ◌&&◌, ◌||◌, ◌==◌, ℤ, if◌then◌else◌, List, length, map, filter}
-use Rattle.std.specs.List.{list_any, range_with_len}
+use Rattle.std.specs.Prelude.{ℕ, ◌-◌, max, Bool, ◌&&◌, ◌||◌, ℤ, if◌then◌else◌, List, length, map, filter}
+use Rattle.std.specs.List.{range_with_len}
 use Rattle.qc_dispatch.specs.Course.{Course, is_running, is_waiting, stage_of}
 use Rattle.qc_model.specs.declared.crane.Crane.{Crane}
 use Rattle.qc_model.specs.declared.pair.Pair.{Pair}

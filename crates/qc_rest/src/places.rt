@@ -1,6 +1,6 @@
 //! Where the cranes of the rest begin.
 
-ghost use Rattle.std.specs.Prelude.{◌≡◌, ℕ, ◌+◌, ◌-◌, ◌*◌, ◌/◌, ◌<◌, ◌≤◌, ◌↔◌, ℤ, pos, negsuc, ◌+ℤ◌, ◌≤ℤ◌, ◌⊎◌, IfSome, IsTrue, length};
+ghost use Rattle.std.specs.Prelude.{◌≡◌, ℕ, ◌+◌, ◌-◌, ◌/◌, ◌<◌, ◌≤◌, ◌↔◌, ℤ, pos, ◌+ℤ◌, ◌≤ℤ◌, ◌⊎◌, IfSome, IsTrue, length};
 ghost use Rattle.std.specs.Int.{div_ceil};
 ghost use Rattle.qc_model.specs.Instance.{IsOnRail};
 ghost use Rattle.qc_rest.specs.Known.{AreKnown};

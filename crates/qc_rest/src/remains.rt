@@ -1,7 +1,7 @@
 //! What tasks that run still need, by a log.
 
 ghost use Rattle.std.specs.Prelude.{◌≡◌, ℕ, ◌+◌, ◌<◌, ◌≤◌, ◌↔◌, IfNone, IfOk, IfSome, IsTrue, List, length};
-ghost use Rattle.qc_dispatch.specs.Course.{is_running, is_waiting, past_moments, stage_of};
+ghost use Rattle.qc_dispatch.specs.Course.{is_running, is_waiting, stage_of};
 ghost use Rattle.qc_dispatch.specs.Following.{journal_of, most_passed};
 ghost use Rattle.qc_dispatch.specs.Journal.{IsFollowed};
 ghost use Rattle.qc_dispatch.specs.Worked.{begun_at};

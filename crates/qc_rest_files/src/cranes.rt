@@ -1,6 +1,6 @@
 //! The cranes of a ship file.
 
-ghost use Rattle.std.specs.Prelude.{◌≡◌, ◌≤◌, ◌<◌, ◌+◌, ℕ, codes, pos, IfOk, IfSome, IsTrue, OnOk, length, map, position};
+ghost use Rattle.std.specs.Prelude.{◌≡◌, ◌≤◌, ◌<◌, ◌+◌, ℕ, pos, IfOk, IfSome, IsTrue, OnOk, length, map, position};
 ghost use Rattle.std.specs.Ordering.{int_eq};
 ghost use Rattle.toml.specs.Data.{string};
 ghost use Rattle.toml.specs.View.{table_view, view};

@@ -1,9 +1,9 @@
 //! The ship file of what is left.
 
 ghost use Rattle.std.specs.Prelude.{◌≡◌, ◌<◌, ◌-◌, ◌^◌, ℕ, codes, false, if◌then◌else◌, IfOk, IsTrue, Ok, OnOk, length};
-ghost use Rattle.toml.specs.Data.{array, string};
+ghost use Rattle.toml.specs.Data.{string};
 ghost use Rattle.toml.specs.Text.{IsDocumentText};
-ghost use Rattle.toml.specs.View.{items_of, table_view, view};
+ghost use Rattle.toml.specs.View.{table_view, view};
 ghost use Rattle.qc_make.specs.MadeTable.{with_member};
 ghost use Rattle.qc_model.specs.Instance.{crane};
 ghost use Rattle.qc_model.specs.Names.{is_name};

@@ -1,6 +1,6 @@
 //! Values of a ship file.
 
-ghost use Rattle.std.specs.Prelude.{◌≡◌, ◌≤◌, ◌<◌, ◌^◌, pos, IfOk, length, map};
+ghost use Rattle.std.specs.Prelude.{◌≡◌, ◌<◌, ◌^◌, IfOk, map};
 ghost use Rattle.toml.specs.View.{view};
 ghost use Rattle.qc_rest_files.specs.ShipTable.{apart_value, number, two};
 

@@ -1,5 +1,5 @@
 //! The bay plans of a ship as it arrives and for its departure.
-ghost use Rattle.std.specs.Prelude.{◌≡◌, ◌≤◌, IfOk, length};
+ghost use Rattle.std.specs.Prelude.{◌≤◌, IfOk, length};
 ghost use Rattle.qc_run.specs.Inputs.{bay_plans_named, input_of, moving};
 ghost use Rattle.qc_run.specs.Due.{bay_plan_due, bay_plans_due, file_limit, input_due};
 ghost use Rattle.qc_run.specs.Steps.{IsStep};

@@ -1,5 +1,5 @@
 //! How long tasks of past calls took.
-ghost use Rattle.std.specs.Prelude.{◌≡◌, IsSome};
+ghost use Rattle.std.specs.Prelude.{IsSome};
 ghost use Rattle.qc_run.specs.Inputs.{names_of};
 ghost use Rattle.qc_run.specs.Due.{past_due};
 ghost use Rattle.qc_run.specs.Steps.{IsStep};

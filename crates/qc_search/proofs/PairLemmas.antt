@@ -1,9 +1,8 @@
 -- The pairs of which a schedule decides the order.
-use Rattle.std.proofs.Common.{◌≡◌, ◌≢◌, ℕ, zero, suc, ◌+◌, ◌<◌, ◌≤◌, ◌⊎◌, inl, inr, Bool, true, eqb, ◌==◌, ◌&&◌, ◌||◌, cond, All, List, [], ◌∷◌, length, map, Contains, Some, refl, ap, ap₂, sym, subst, ◌∙◌, arith, filter, nat_lt}
-use Rattle.std.proofs.lemmas.Bool.{and_from, cases_Bool, cases_eq, cases_lt, eq-eqb, eqb-true, lt-ltb, ltb-true, or_cases, or_left, or_right}
+use Rattle.std.proofs.Common.{◌≡◌, ◌≢◌, ℕ, zero, suc, ◌+◌, ◌<◌, ◌≤◌, ◌⊎◌, inl, inr, Bool, true, eqb, ◌==◌, ◌||◌, cond, All, List, [], ◌∷◌, length, map, Contains, Some, refl, ap, ap₂, sym, ◌∙◌, arith, filter, nat_lt}
+use Rattle.std.proofs.lemmas.Bool.{cases_Bool, cases_eq, cases_lt, eq-eqb, eqb-true, lt-ltb, ltb-true, or_cases, or_left, or_right}
 use Rattle.std.proofs.lemmas.List.Elements.{All-append, All-contains, All-filter, All-from_recursion, All-map, All-nil, Contains-append_left, Contains-append_right, filter_passes, recursion_from_All}
-use Rattle.std.proofs.lemmas.List.Folds.{list_any_at}
-use Rattle.std.specs.List.{AllByRecursion, flat_map, list_any, range_with_len}
+use Rattle.std.specs.List.{AllByRecursion, flat_map, range_with_len}
 use Rattle.qc_num.proofs.Lists.{Contains-map}
 use Rattle.qc_close.specs.Model.{Decision, Pair, Slot, Turn, OneWay, Free, GoesBy, InstanceView, IsApart, Valid, pair_of, Conflicts, assigned, Feasible, IsClear, crane_of, slot_distance, task_distance, is_apart}
 use Rattle.qc_model.proofs.NodeLemmas.{before_found, conflict_differs, conflict_inside, conflict_turned, one_way_apart, pair_listed}

@@ -1,7 +1,7 @@
 //! A search in rounds: first one at the end of what it begins with, with most of all branchings; then some that aim at ends
 //! between what is shown and the best end that is known; and last one at that end with what is left. Each begins with the best
 //! schedule that is known, and writes its tree, which stands where it shows more than the one that stood.
-ghost use Rattle.std.specs.Prelude.{◌≡◌, ◌≢◌, ◌<◌, ◌≤◌, ◌+◌, ◌*◌, ◌⊎◌, Option, None, IfOk, IfSome, IsTrue, OnErr, OnOk, length};
+ghost use Rattle.std.specs.Prelude.{◌≡◌, ◌<◌, ◌≤◌, ◌+◌, ◌*◌, ◌⊎◌, Option, None, IfOk, IfSome, IsTrue, OnErr, OnOk};
 ghost use Rattle.qc_io.specs.Outside.{Files, finished};
 ghost use Rattle.qc_io.specs.Writes.{Counts};
 ghost use Rattle.qc_close.specs.Model.{Valid, most_branchings};

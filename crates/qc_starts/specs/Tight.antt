@@ -1,6 +1,6 @@
 -- public: schedules whose tasks start as early as they can.
-use Rattle.std.specs.Prelude.{◌≡◌, ℕ, ◌<◌, nat_le, nat_lt, Bool, ◌&&◌, ◌||◌, ◌==◌, if◌then◌else◌, List, ◌++◌, filter, length, map}
-use Rattle.std.specs.List.{flat_map, list_any, range_with_len}
+use Rattle.std.specs.Prelude.{◌≡◌, ℕ, ◌<◌, nat_le, nat_lt, Bool, ◌||◌, ◌==◌, if◌then◌else◌, List, ◌++◌, filter, length, map}
+use Rattle.std.specs.List.{flat_map, range_with_len}
 use Rattle.qc_model.specs.declared.decision.Decision.{Decision}
 use Rattle.qc_model.specs.declared.decision.Decision.TheVariants.{Assign, Order}
 use Rattle.qc_model.specs.declared.direction.Direction.{Direction}

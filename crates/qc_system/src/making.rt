@@ -1,5 +1,5 @@
 //! A file that is being made.
-ghost use Rattle.std.specs.Prelude.{◌≡◌, ◌↔◌, ◌≤◌, ◌<◌, length, take, None, Some, IsTrue, IsErr, IfOk, IfSome, Contains, string_bytes};
+ghost use Rattle.std.specs.Prelude.{◌≡◌, ◌↔◌, ◌≤◌, ◌<◌, length, take, None, Some, IsTrue, IsErr, IfOk, IfSome, string_bytes};
 ghost use Rattle.std.specs.Io.KnownBytes.{Appends, append_known};
 ghost use Rattle.qc_io.specs.Writes.{Counts};
 ghost use Rattle.qc_system.specs.Once.{WritesOnce};

@@ -1,7 +1,6 @@
 -- The order of a ship's tasks, with some of the planner's entries and with all.
-use Rattle.std.proofs.Common.{◌≡◌, ℕ, zero, suc, ◌+◌, ◌-◌, ◌<◌, ◌≤◌, ◌∷◌, ◌++◌, ◌&&◌, ◌||◌, [], Bool, true, false, List, Ok, Err, None, Some, Result, length, take, drop, refl, sym, ap, subst, inl, inr, ◌∙◌, arith, Contains}
+use Rattle.std.proofs.Common.{◌≡◌, ℕ, zero, suc, ◌-◌, ◌<◌, ◌≤◌, ◌∷◌, ◌&&◌, ◌||◌, [], Bool, true, false, List, Ok, Err, None, Some, length, take, drop, refl, sym, ap, subst, inl, inr, ◌∙◌, arith, Contains}
 use Rattle.std.specs.List.{list_any}
-use Rattle.std.specs.Option.{option_map_or}
 use Rattle.std.specs.Str.{bytes_eq}
 use Rattle.std.proofs.lemmas.Bool.{and_parts, cases_Bool, cases_lt, or_cases, or_left, or_right}
 use Rattle.std.proofs.lemmas.Bool.Decides.{Decides-eqb, Decides-ltb}
@@ -11,7 +10,7 @@ use Rattle.qc_model.specs.declared.task.Task.{Task}
 use Rattle.qc_model.specs.declared.pair.Pair.{Pair}
 use Rattle.qc_model.specs.Numbers.{most_tasks}
 use Rattle.qc_model.specs.Tasks.{phase_rank}
-use Rattle.qc_model.specs.Instance.{InstanceView, IsPath, pair_of}
+use Rattle.qc_model.specs.Instance.{IsPath, pair_of}
 use Rattle.qc_ship.specs.declared.ship.NamePair.{NamePair}
 use Rattle.qc_ship.specs.Ship.{ShipView, IsShip}
 use Rattle.qc_ship.specs.Cells.{is_on_deck}
@@ -25,7 +24,7 @@ use Rattle.qc_tasks.specs.Rings.{ClosesRing, before_with, first_ring, has_ring, 
 use Rattle.qc_tasks.proofs.Lists.{any_some}
 use Rattle.qc_tasks.proofs.PairFacts.{pairs_have, pairs_pass}
 use Rattle.qc_tasks.proofs.TaskFacts.{few_tasks}
-use Rattle.qc_tasks.proofs.RingLemmas.{Way, find_none, find_some, no_path, path_weaker, ring_path}
+use Rattle.qc_tasks.proofs.RingLemmas.{find_none, find_some, no_path, path_weaker, ring_path}
 
 path_rises : (pairs : List Pair) (rank : ℕ → ℕ) → ((i j : ℕ) → Contains pairs (pair_of i j) → rank i < rank j) → (i : ℕ) (via : List ℕ) (j : ℕ) → IsPath pairs i via j → rank i < rank j
 path_rises pairs rank rises i [] j has = rises i j has

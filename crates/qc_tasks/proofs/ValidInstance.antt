@@ -1,8 +1,7 @@
 -- The instance of a ship and its moves is valid.
-use Rattle.std.proofs.Common.{◌≡◌, ◌≢◌, ◌↔◌, ℕ, ℤ, map, ◌+◌, ◌-◌, ◌<◌, ◌≤◌, ◌∷◌, ◌==◌, ◌&&◌, [], Bool, true, false, List, length, get_or, min, max, refl, sym, ap, inl, inr, ◌∙◌, arith, AllPairs, Contains, pos, nat_lt}
-use Rattle.std.specs.List.{flat_map, list_any, zip, AllByRecursion as Each}
-use Rattle.std.specs.Str.{bytes_eq}
-use Rattle.std.proofs.lemmas.Bool.{and_parts, cases_Bool, cases_lt, or_cases, or_left}
+use Rattle.std.proofs.Common.{◌≡◌, ◌≢◌, ◌↔◌, ℕ, ℤ, map, ◌+◌, ◌-◌, ◌<◌, ◌≤◌, ◌==◌, Bool, true, false, List, length, get_or, min, max, refl, sym, ap, inl, inr, ◌∙◌, arith, AllPairs, Contains, pos, nat_lt}
+use Rattle.std.specs.List.{flat_map, zip, AllByRecursion as Each}
+use Rattle.std.proofs.lemmas.Bool.{and_parts, cases_Bool, cases_lt, or_left}
 use Rattle.std.proofs.lemmas.Bool.Decides.{Decides-eqb, Decides-ltb}
 use Rattle.std.proofs.lemmas.Int.{ints}
 use Rattle.std.proofs.lemmas.List.{get_or_default}
@@ -17,13 +16,9 @@ use Rattle.qc_model.specs.declared.turn.Turn.TheVariants.{OneWay}
 use Rattle.qc_model.specs.Instance.{InstanceView, HasBayLimits, HasPlaceLimits, HasValidTasks, HasValidCranes, HasValidBefore, HasValidApart, IsFrom, IsPath, Valid, no_crane, no_task, pair_of}
 use Rattle.qc_ship.specs.declared.ship.HatchPair.{HatchPair}
 use Rattle.qc_ship.specs.Ship.{ShipView, IsShip, greatest_place}
-use Rattle.qc_ship.specs.Cells.{is_on_deck}
-use Rattle.qc_stow.specs.Moves.{is_discharge, is_load}
 use Rattle.qc_stow.specs.Moves.{most_moves}
-use Rattle.qc_stow.specs.declared.row.Move.{Move}
-use Rattle.qc_stow.specs.declared.row.Move.TheVariants.{Discharge, Load}
 use Rattle.qc_stow.specs.declared.row.Row.{Row}
-use Rattle.qc_tasks.specs.InstanceOf.{apart_of, before_of, brings_back, discharges, instance_of, is_apart, is_asked, is_before, is_earlier_phase, names_both, pairs_with, phases, task_at, tasks_at, tasks_of}
+use Rattle.qc_tasks.specs.InstanceOf.{apart_of, before_of, instance_of, is_apart, is_asked, is_before, is_earlier_phase, names_both, phases, task_at, tasks_at, tasks_of}
 use Rattle.qc_tasks.proofs.Lists.{any_each, each_from, each_weaker, each_flat_map, each_zip, pairs_by_index}
 use Rattle.qc_tasks.proofs.TaskFacts.{Follows, IsTaskAt, all_follow, few_tasks, four_tasks, hatch_are, lower_hatch}
 use Rattle.qc_tasks.proofs.WorkFacts.{all_work}

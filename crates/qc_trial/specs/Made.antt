@@ -1,5 +1,5 @@
 -- public: what is made from numbers, what a search of it came to, and what is told of that.
-use Rattle.std.specs.Prelude.{◌≡◌, ℕ, List, length, sum_by, Option, None, Some, Result, Ok, Err, option_map}
+use Rattle.std.specs.Prelude.{◌≡◌, ℕ, List, length, sum_by, Option, None, Some, Result, Ok, option_map}
 use Rattle.qc_num.specs.Reading.{◌>>=◌, with_fault}
 use Rattle.qc_make.specs.MadeList.{list_text}
 use Rattle.qc_make.specs.MadeTable.{ship_table}

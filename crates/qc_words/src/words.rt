@@ -4,8 +4,8 @@ ghost use Rattle.std.specs.Prelude.{◌≡◌, IfOk, IfSome, IsOk, IsTrue, map, 
 ghost use Rattle.std.specs.List.{list_any};
 ghost use Rattle.std.specs.Option.{option_map_or};
 ghost use Rattle.clap.specs.Words.{app_of, found_of, rows_of, first_of, is_simple_and_free};
-ghost use Rattle.qc_run.specs.Inputs.{moving, names_of, planning, replanning};
-ghost use Rattle.qc_words.specs.Asked.{asked_for, usage, KeepsLimits, are_different, given, is_same, listing, resting};
+ghost use Rattle.qc_run.specs.Inputs.{names_of};
+ghost use Rattle.qc_words.specs.Asked.{asked_for, usage, KeepsLimits, are_different, is_same};
 ghost use Rattle.qc_words.specs.Commands.{command_of, named, read_by};
 ghost use Rattle.qc_words.specs.declared.commands.CommandName.TheVariants as name;
 ghost use Rattle.qc_words.specs.Words.{Asks, about, asked_in, by_in, check_in, followed, listed, moves_in, nodes_in, number_between, odds_in, plan_in, planned, rest_in, runs_in, seed_in, texts, value_of, watched, weighed};

@@ -1,4 +1,4 @@
-use Rattle.std.proofs.Common.{ℕ, ◌-◌, ◌*◌, ◌^◌, ap, arith}
+use Rattle.std.proofs.Common.{◌-◌, ◌*◌, ◌^◌, ap, arith}
 use Rattle.qc_close.specs.Model.{Frame, bays_to}
 use Rattle.qc_close.specs.Counts.{no_frame}
 use Rattle.qc_close.proofs.SumLemmas.{last_falls, last_more, rest_more, small_more}

@@ -1,10 +1,5 @@
-use Rattle.std.proofs.Common.{◌≡◌, ◌∙◌, ℕ, max, map, ap, arith}
-use Rattle.std.specs.List.{range_with_len}
+use Rattle.std.proofs.Common.{arith}
 use Rattle.qc_dist.proofs.Ranges.{greatest_more}
-use Rattle.qc_model.specs.Instance.{bay_of}
-use Rattle.qc_model.specs.Nodes.{greatest}
-use Rattle.qc_model.specs.Rules.{crane_of}
-use Rattle.qc_model.specs.Ticks.{arrival}
 use Rattle.qc_odds.specs.Runs.{there, there_from}
 use Rattle.qc_odds.proofs.crane_run.there.Goals as goal
 

@@ -1,4 +1,4 @@
-use Rattle.std.proofs.Common.{◌≡◌, ℕ, ◌+◌, ◌<◌, ap, length, get_or, subst, sym, arith}
+use Rattle.std.proofs.Common.{◌≡◌, ◌+◌, ◌<◌, ap, length, get_or, subst, sym, arith}
 use Rattle.qc_model.specs.Instance.{InstanceView}
 use Rattle.qc_odds.specs.Added.{crane_added}
 use Rattle.qc_odds.specs.Small.{IsSmallCrane}

@@ -1,4 +1,4 @@
-use Rattle.std.proofs.Common.{◌≡◌, ◌∙◌, ◌||◌, List, get_or, refl, ap}
+use Rattle.std.proofs.Common.{◌∙◌, ◌||◌, List, get_or, refl, ap}
 use Rattle.std.specs.List.{list_any}
 use Rattle.std.proofs.lemmas.List.{get_or_default, take_all}
 use Rattle.qc_model.specs.declared.task.Phase.TheVariants.{DeckOut}

@@ -4,8 +4,7 @@ use Rattle.qc_model.specs.Bays.{at_least_zero}
 use Rattle.qc_model.specs.declared.pair.Pair.{Pair}
 use Rattle.qc_model.specs.Instance.{IsPath, Valid}
 use Rattle.qc_ship.specs.Ship.{greatest_place}
-use Rattle.qc_tasks.specs.InstanceOf.{apart_of, before_of, instance_of, tasks_of}
-use Rattle.qc_tasks.specs.Rings.{tasks_due}
+use Rattle.qc_tasks.specs.InstanceOf.{apart_of, before_of, tasks_of}
 use Rattle.qc_tasks.proofs.TaskFacts.{few_tasks}
 use Rattle.qc_tasks.proofs.ValidInstance.{bays_high, gap_high, same_instance, valid_instance}
 use Rattle.qc_tasks.proofs.instance.tasks_of.Goals as goal

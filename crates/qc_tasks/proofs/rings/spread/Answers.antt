@@ -1,4 +1,4 @@
-use Rattle.std.proofs.Common.{◌≡◌, ◌∙◌, ◌<◌, length, get_or, sym, arith}
+use Rattle.std.proofs.Common.{◌∙◌, ◌<◌, length, get_or, sym, arith}
 use Rattle.std.proofs.lemmas.List.Elements.{Contains-get_or}
 use Rattle.qc_model.specs.Instance.{pair_of}
 use Rattle.qc_tasks.proofs.MarkLemmas.{fewer_still, front_all, front_more, no_more_unmarked, reached_more, unmarked_less}
