@@ -46,6 +46,7 @@ sys.path.append(str(ROOT / "trials"))
 from tried import add_program, program_of
 
 USUAL, MOST = 20_000, 100_000  # branchings where none are given, and the most that are tried
+PARTS = 8  # the first round of a search leaves one in so many branchings to the others
 
 # Hatches and cranes of the made ships of the first table.
 SIZES = [(8, 2), (10, 3), (12, 3), (15, 3), (20, 4), (30, 5), (40, 6), (50, 7), (60, 8)]
@@ -177,8 +178,7 @@ def measure_side(words):
 def beside(program, side, kind, numbers, runs):
     ship, stow = ships.KINDS[kind](*numbers)
     with written(ship=ship, stow=stow) as folder:
-        # A tree that is written as it stands is that of one round, as C++ searches here; each line is then a call of its own.
-        names = [*(folder / name for name in ("ship", "stow", "plan")), pathlib.Path("/dev/null")]
+        names = [folder / name for name in ("ship", "stow", "plan", "tree")]
         dump = [sys.executable, ROOT / "trials/reference.py", "--dump", *names[:2]]
         (folder / "numbers").write_bytes(subprocess.run(dump, capture_output=True, check=True).stdout)
         calls = {"first": ("plan", *names, "--nodes", "0"), "plan": ("plan", *names), "free": ("free", *names)}
@@ -191,7 +191,7 @@ def beside(program, side, kind, numbers, runs):
                 told[name] = [run.lines[0]] + [run.told[word] for word in ("end", "bound", "branched", "given")]
                 took[name].append(run.seconds)
             for name, words in (("plan", ()), ("free", ("--free",))):
-                words = [side, *words, folder / "numbers", told[name][-1], str(USUAL)]
+                words = [side, *words, "--rounds", str(PARTS), folder / "numbers", told[name][-1], str(USUAL), folder / "plain"]
                 lines = subprocess.run(words, capture_output=True, text=True, check=True).stdout.splitlines()
                 if [line.split()[-1] for line in lines[:4]] != told[name][:4]:
                     raise ValueError(f"{kind} {numbers}: {name} in C++ comes to {lines}, and not to {told[name]}")
@@ -213,7 +213,7 @@ def measure_files(words):
         files = [folder / "ship", folder / "stow"]
         plan, tree, log = folder / "plan", folder / "tree", folder / "log"
         for name, search_by in (("check", "plan"), ("freecheck", "free")):
-            Run(words.program, search_by, *files, plan, tree, "--nodes", str(nodes))
+            search_through(folder / "pipe", tree, words.program, search_by, *files, plan, nodes=nodes)
             lines, size = len(tree.read_text().splitlines()), tree.stat().st_size / 1e6
             yield timed(words.program, runs, f"a tree of {lines:,} lines, {size:.1f} MB", name, *files, plan, tree)
         yield timed(words.program, runs, "the ship file and the list alone", "tasks", *files)
@@ -230,6 +230,14 @@ def measure_files(words):
     with written(ship=ship, log=places) as folder:
         yield timed(words.program, runs, f"a log of {len(places):,} places of eight cranes", "watch", folder / "ship",
                     folder / "log")
+
+
+def search_through(pipe, tree, program, command, *files, nodes):
+    """Searches with all branchings in one round, as where the tree goes to a pipe: no greater tree comes of so many."""
+    if not pipe.exists():
+        os.mkfifo(pipe)
+    with tree.open("wb") as file, subprocess.Popen(["cat", pipe], stdout=file):
+        Run(program, command, *files, pipe, "--nodes", str(nodes))
 
 
 def timed(program, runs, what, command, *files):
