@@ -593,7 +593,7 @@ MISTAKES = [
          "Broken OneWay 10-LD 14-DD",
          ["qc: plan.csv, line 3, record 3: the plan can be worked, but its cranes go to and fro: from 14-DD to 10-LD the way is "
           "down, and other tasks go up; only a tree of all feasible plans speaks of such a plan, and qc freecheck judges it; qc "
-          "sheet, qc dispatch, qc picture and qc report take it"],
+          "sheet, dispatch, odds, rest, picture and report take it"],
          base="restows", words=SHOW, status=13),
     # ---- the tree
     tree("Windows' lines", ("crlf",), "BadTree Spelling 1",

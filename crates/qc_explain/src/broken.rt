@@ -293,7 +293,7 @@ fn say_one_way(page: &mut Page, early: &Doing<'_>, late: &Doing<'_>) {
         .text(" to ")
         .text(late.name())
         .text(
-            " the way is down, and other tasks go up; only a tree of all feasible plans speaks of such a plan, and qc freecheck judges it; qc sheet, qc dispatch, qc picture and qc report take it",
+            " the way is down, and other tasks go up; only a tree of all feasible plans speaks of such a plan, and qc freecheck judges it; qc sheet, dispatch, odds, rest, picture and report take it",
         )
         .end()
 }
