@@ -218,7 +218,7 @@ def words_tried(program):
         for name, text in zip(names, (B, TWO, FIRST_LATE, "")):
             (Path(room) / name).write_text(text)
         twice = [names[:i] + [names[j]] + names[i + 1:] for i in range(7) for j in range(7) if i != j]
-        for some in twice + [names[:6], names + ["x"], names + ["--nodes", "1"], names[:6] + [""], names[:6] + ["-x"]]:
+        for some in twice + [names[:6], names + ["x"], names + ["--nodes", "1"], names[:6] + ["-x"]]:
             done = subprocess.run([program, "-q", "rest", *some], cwd=room, capture_output=True, text=True, timeout=20)
             if done.returncode != 2 or done.stdout.split("\n")[0] != "Usage" or sorted(path.name for path in Path(room).iterdir()) != sorted(names[:4]):
                 faults += 1

@@ -2,7 +2,8 @@
 //! command line. They meet the traits' contracts and tell no content.
 //!
 //! A failure of a call is counted and moves nothing (`write_once`, `read_once`). No file is begun
-//! that was opened or finished (`note`, `is_among`). What is written to a new file waits, at most
+//! that was opened or finished (`note`, `is_among`), but the one that was finished last, again under
+//! its name (`again_as`). What is written to a new file waits, at most
 //! 65,536 bytes of it (`Held`), and is in the file before that takes its place (`Making::finish`); a
 //! line of standard output goes out with its end (`Lines`). The rest is the trusted edge.
 #![tactic(auto)]
