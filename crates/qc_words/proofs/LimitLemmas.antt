@@ -15,7 +15,7 @@ use Rattle.qc_run.specs.Inputs.{Moving, Names, Planning, Replanning}
 use Rattle.qc_words.specs.declared.asked.Reader.TheVariants as reader
 use Rattle.qc_words.specs.declared.commands.CommandName.{CommandName}
 use Rattle.qc_words.specs.declared.commands.CommandName.TheVariants as name
-use Rattle.qc_words.specs.Asked.{Asked, KeepsLimits, are_different, given, help, listing, most_number, most_runs, most_seed, moves, plan, read, replan, resting, tick_digits, usage}
+use Rattle.qc_words.specs.Asked.{Asked, KeepsLimits, are_different, given, help, listing, most_number, most_runs, most_seed, moves, plan, read, replan, resting, tick_digits, usage, version}
 use Rattle.qc_words.specs.Commands.{command_name, command_of, named, read_by}
 use Rattle.qc_words.specs.Words.{about, asked_by, asked_in, asked_of, by_in, check_in, followed, is_help, listed, make_of, moves_in, nodes_in, number_between, odds_of, plan_in, plan_of, rest_in, runs_in, seed_in, value_of, weighed}
 

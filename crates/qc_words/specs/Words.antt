@@ -9,7 +9,7 @@ use Rattle.qc_model.specs.declared.turn.Turn.{Turn}
 use Rattle.qc_model.specs.declared.turn.Turn.TheVariants.{OneWay, Free}
 use Rattle.qc_num.specs.Digits.{number_in}
 use Rattle.qc_run.specs.Inputs.{Moving, Names, Planning, Replanning, no_names}
-use Rattle.qc_words.specs.Asked.{Asked, read, plan, moves, simulate, replan, make, help, usage, are_different, given, listing, resting, most_number, most_runs, most_seed, tick_digits}
+use Rattle.qc_words.specs.Asked.{Asked, read, plan, moves, simulate, replan, make, help, version, usage, are_different, given, listing, resting, most_number, most_runs, most_seed, tick_digits}
 use Rattle.qc_words.specs.declared.asked.Reader.TheVariants as reader
 use Rattle.qc_words.specs.Commands.{command_of, named, read_by, command_name}
 use Rattle.qc_words.specs.declared.commands.CommandName.{CommandName}
