@@ -8,7 +8,8 @@ use Rattle.qc_dispatch.specs.Course.{past_moments}
 use Rattle.qc_model.specs.Instance.{IsOnRail, Valid, bay_of}
 use Rattle.qc_model.proofs.Bays.{bays}
 use Rattle.qc_model.proofs.LimitsOf.{limits_of}
-use Rattle.qc_rest.specs.Limits.{AreTops, HasOwnRoom, IsLower, IsOff, IsPlace, IsUpper, place_at}
+use Rattle.qc_rest.specs.declared.places.Outlook as code
+use Rattle.qc_rest.specs.Limits.{AreTops, HasOwnRoom, IsLower, IsOff, IsPlace, IsPlaced, IsReady, IsUpper, place_at, view_of}
 use Rattle.qc_rest.specs.Places.{ArePlaces, IsHighEnough, IsNextOf, IsTop, LeavesRoom, Outlook, far_of, off_of}
 use Rattle.qc_rest.specs.Stands.{stand_of}
 
@@ -18,135 +19,104 @@ through x y z one other = omega (arith, bays)
 itself : (x : ℤ) → x ≤ℤ x
 itself x = omega (arith, bays)
 
+-- ---- what its stand and its tasks ask of a crane's place, one task after the other
+
+module _ (o : Outlook) (k : ℕ) (stand : ℤ → Type 0) (near : (j off : ℕ) → ℤ → Type 0) where
+  -- a place is as the stand and the first n tasks ask
+  pub record IsAsked (n : ℕ) (z : ℤ) : Type 0 where
+    pub first : stand z
+    pub tasks : (j : ℕ) → j < n → IsNextOf o k j → near j (off_of o j) z
+
+  front : (n : ℕ) (z : ℤ) → IsAsked (n + 1) z → IsAsked n z
+  front n z is = record { first = is.first; tasks = λ j low. is.tasks j (omega arith) }
+
+  longer : (n : ℕ) (z : ℤ) → IsAsked n z → (IsNextOf o k n → near n (off_of o n) z) → IsAsked (n + 1) z
+  longer n z is last = record {
+    first = is.first;
+    tasks = λ j low next. elim (cases_eq j n) [
+      | inl same ↦ subst (λ (i : ℕ). near i (off_of o i) z) (sym same) (last (subst (IsNextOf o k) same next))
+      | inr other ↦ is.tasks j (omega arith) next
+    ];
+  }
+
+  -- exactly the places that pass are so
+  abbrev pub AreAsked : ℕ → (ℤ → Type 0) → Type 0
+  AreAsked n passes = (z : ℤ) → passes z ↔ IsAsked n z
+
+  asked_first : (passes : ℤ → Type 0) → ((z : ℤ) → passes z ↔ stand z) → AreAsked 0 passes
+  asked_first passes is z = (λ pass. record { first = (is z).0 pass; tasks = λ j low. absurd (omega arith) }, λ asked. (is z).1 asked.first)
+
+  asked_more : (n : ℕ) (passes after : ℤ → Type 0) (off : Option ℕ) → IsOff o k n off
+      → ((z : ℤ) → after z ↔ (passes z × IfSome off (λ m. near n m z))) → AreAsked n passes → AreAsked (n + 1) after
+  asked_more n passes after None not both are z = (
+    λ pass. longer n z ((are z).0 ((both z).0 pass).0) (λ next. absurd (not next)),
+    λ asked. (both z).1 ((are z).1 (front n z asked), tt),
+  )
+  asked_more n passes after (Some m) off both are z = (
+    λ pass. longer n z ((are z).0 ((both z).0 pass).0) (λ next. subst (λ (i : ℕ). near n i z) off.1 ((both z).0 pass).1),
+    λ asked. (both z).1 ((are z).1 (front n z asked), subst (λ (i : ℕ). near n i z) (sym off.1) (asked.tasks n (omega arith) off.0)),
+  )
+
+  asked_all : (n : ℕ) (passes : ℤ → Type 0) → length o.course.inst.tasks ≤ n → AreAsked n passes
+      → (z : ℤ) → passes z ↔ (stand z × ((j : ℕ) → IsNextOf o k j → near j (off_of o j) z))
+  asked_all n passes all are z = (
+    λ pass. let asked : IsAsked n z = (are z).0 pass in (asked.first, λ j next. asked.tasks j (omega (arith, all, next.left.task)) next),
+    λ asked. (are z).1 (record { first = asked.0; tasks = λ j low. asked.1 j }),
+  )
+
 -- ---- the highest place of one crane
 
 module _ (o : Outlook) (w : ℕ) where
-  -- the same for the first n tasks
-  pub record HasRoomFor (n : ℕ) (z : ℤ) : Type 0 where
-    pub stand : z ≤ℤ ((stand_of o.stands w).bay +ℤ pos (far_of o w))
-    pub tasks : (j : ℕ) → j < n → IsNextOf o w j → z ≤ℤ (bay_of o.course.inst j +ℤ pos (off_of o j))
+  abbrev IsReached : ℤ → Type 0
+  IsReached z = z ≤ℤ ((stand_of o.stands w).bay +ℤ pos (far_of o w))
 
+  abbrev IsUnder : (j off : ℕ) → ℤ → Type 0
+  IsUnder j off z = z ≤ℤ (bay_of o.course.inst j +ℤ pos off)
+
+  -- the same for the first n tasks
   abbrev pub IsUpperFor : ℕ → ℤ → Type 0
-  IsUpperFor n upper = (z : ℤ) → (z ≤ℤ upper) ↔ HasRoomFor n z
+  IsUpperFor n upper = AreAsked o w IsReached IsUnder n (λ z. z ≤ℤ upper)
 
   pub upper_first : (upper : ℤ) → upper ≡ (stand_of o.stands w).bay +ℤ pos (far_of o w) → IsUpperFor 0 upper
-  upper_first upper e z = (
-    λ le. record { stand = subst (λ (y : ℤ). z ≤ℤ y) e le; tasks = λ j low. absurd (omega arith) },
-    λ room. subst (λ (y : ℤ). z ≤ℤ y) (sym e) room.stand,
-  )
-
-  pub upper_same : (n : ℕ) (upper : ℤ) → ¬ IsNextOf o w n → IsUpperFor n upper → IsUpperFor (n + 1) upper
-  upper_same n upper not is z = (
-    λ le. let room : HasRoomFor n z = (is z).0 le in record {
-      stand = room.stand;
-      tasks = λ j low next. elim (cases_eq j n) [
-        | inl same ↦ absurd (not (subst (IsNextOf o w) same next))
-        | inr other ↦ room.tasks j (omega arith) next
-      ];
-    },
-    λ room. (is z).1 (record { stand = room.stand; tasks = λ j low next. room.tasks j (omega arith) next }),
-  )
-
-  pub upper_next : (n : ℕ) (upper limit after : ℤ) → IsNextOf o w n → limit ≡ bay_of o.course.inst n +ℤ pos (off_of o n)
-      → ((z : ℤ) → (z ≤ℤ after) ↔ ((z ≤ℤ upper) × (z ≤ℤ limit))) → IsUpperFor n upper → IsUpperFor (n + 1) after
-  upper_next n upper limit after is_next at both is z = (
-    λ le.
-        let parts = (both z).0 le in
-        let room : HasRoomFor n z = (is z).0 parts.0 in record {
-          stand = room.stand;
-          tasks = λ j low next. elim (cases_eq j n) [
-            | inl same ↦ subst (λ (i : ℕ). z ≤ℤ (bay_of o.course.inst i +ℤ pos (off_of o i))) (sym same) (subst (λ (y : ℤ). z ≤ℤ y) at parts.1)
-            | inr other ↦ room.tasks j (omega arith) next
-          ];
-        },
-    λ room. (both z).1 (
-      (is z).1 (record { stand = room.stand; tasks = λ j low next. room.tasks j (omega arith) next }),
-      subst (λ (y : ℤ). z ≤ℤ y) (sym at) (room.tasks n (omega arith) is_next),
-    ),
-  )
+  upper_first upper e = asked_first o w IsReached IsUnder (λ z. z ≤ℤ upper)
+      (λ z. (λ le. subst (λ (y : ℤ). z ≤ℤ y) e le, λ le. subst (λ (y : ℤ). z ≤ℤ y) (sym e) le))
 
   pub upper_more : (n : ℕ) (upper after : ℤ) (off : Option ℕ) → IsOff o w n off
       → ((z : ℤ) → (z ≤ℤ after) ↔ ((z ≤ℤ upper) × IfSome off (λ k. z ≤ℤ (bay_of o.course.inst n +ℤ pos k)))) → IsUpperFor n upper → IsUpperFor (n + 1) after
-  upper_more n upper after None not both is z = (
-    λ le. (upper_same n upper not is z).0 ((both z).0 le).0,
-    λ room. (both z).1 ((upper_same n upper not is z).1 room, tt),
-  )
-  upper_more n upper after (Some k) off both is z =
-      upper_next n upper (bay_of o.course.inst n +ℤ pos k) after off.0 (ap (λ (m : ℕ). bay_of o.course.inst n +ℤ pos m) off.1) both is z
+  upper_more n upper after off is both = asked_more o w IsReached IsUnder n (λ z. z ≤ℤ upper) (λ z. z ≤ℤ after) off is both
 
   pub upper_all : (n : ℕ) (upper : ℤ) → length o.course.inst.tasks ≤ n → IsUpperFor n upper → IsUpper o w upper
-  upper_all n upper all is z = (
-    λ le. let room : HasRoomFor n z = (is z).0 le in record {
-      stand = room.stand;
-      tasks = λ j next. room.tasks j (omega (arith, all, next.left.task)) next;
-    },
-    λ room. (is z).1 (record { stand = room.stand; tasks = λ j low next. room.tasks j next }),
-  )
-
-  -- no place of it is higher than so many bays above its stand
-  pub upper_at_most : (upper : ℤ) → IsUpper o w upper → upper ≤ℤ ((stand_of o.stands w).bay +ℤ pos (far_of o w))
-  upper_at_most upper is = ((is upper).0 (itself upper)).stand
+  upper_all n upper all is z =
+      let asked = asked_all o w IsReached IsUnder n (λ z. z ≤ℤ upper) all is z in (
+        λ le. record { stand = (asked.0 le).0; tasks = (asked.0 le).1 },
+        λ room. asked.1 (room.stand, room.tasks),
+      )
 
 -- ---- the lowest place of one crane
 
-module _ (o : Outlook) (k : ℕ) (from : ℤ) where
-  pub record IsFromFor (n : ℕ) (z : ℤ) : Type 0 where
-    pub stand : from ≤ℤ z
-    pub tasks : (j : ℕ) → j < n → IsNextOf o k j → bay_of o.course.inst j ≤ℤ (z +ℤ pos (off_of o j))
+module _ (o : Outlook) (tops : ℕ → ℤ) (k : ℕ) where
+  abbrev IsHeld : ℤ → Type 0
+  IsHeld z = ((stand_of o.stands k).bay ≤ℤ z) ⊎ (tops k ≤ℤ z)
+
+  abbrev IsOver : (j off : ℕ) → ℤ → Type 0
+  IsOver j off z = bay_of o.course.inst j ≤ℤ (z +ℤ pos off)
 
   abbrev pub IsLowerFor : ℕ → ℤ → Type 0
-  IsLowerFor n lower = (z : ℤ) → (lower ≤ℤ z) ↔ IsFromFor n z
+  IsLowerFor n lower = AreAsked o k IsHeld IsOver n (λ z. lower ≤ℤ z)
 
-  pub lower_first : IsLowerFor 0 from
-  lower_first z = (λ le. record { stand = le; tasks = λ j low. absurd (omega arith) }, λ room. room.stand)
-
-  pub lower_same : (n : ℕ) (lower : ℤ) → ¬ IsNextOf o k n → IsLowerFor n lower → IsLowerFor (n + 1) lower
-  lower_same n lower not is z = (
-    λ le. let room : IsFromFor n z = (is z).0 le in record {
-      stand = room.stand;
-      tasks = λ j low next. elim (cases_eq j n) [
-        | inl same ↦ absurd (not (subst (IsNextOf o k) same next))
-        | inr other ↦ room.tasks j (omega arith) next
-      ];
-    },
-    λ room. (is z).1 (record { stand = room.stand; tasks = λ j low next. room.tasks j (omega arith) next }),
-  )
-
-  lower_next : (n : ℕ) (lower after : ℤ) (off : ℕ) → IsNextOf o k n → off ≡ off_of o n
-      → ((z : ℤ) → (after ≤ℤ z) ↔ ((lower ≤ℤ z) × (bay_of o.course.inst n ≤ℤ (z +ℤ pos off)))) → IsLowerFor n lower → IsLowerFor (n + 1) after
-  lower_next n lower after off is_next at both is z = (
-    λ le.
-        let parts = (both z).0 le in
-        let room : IsFromFor n z = (is z).0 parts.0 in record {
-          stand = room.stand;
-          tasks = λ j low next. elim (cases_eq j n) [
-            | inl same ↦ subst (λ (i : ℕ). bay_of o.course.inst i ≤ℤ (z +ℤ pos (off_of o i))) (sym same)
-                (subst (λ (m : ℕ). bay_of o.course.inst n ≤ℤ (z +ℤ pos m)) at parts.1)
-            | inr other ↦ room.tasks j (omega arith) next
-          ];
-        },
-    λ room. (both z).1 (
-      (is z).1 (record { stand = room.stand; tasks = λ j low next. room.tasks j (omega arith) next }),
-      subst (λ (m : ℕ). bay_of o.course.inst n ≤ℤ (z +ℤ pos m)) (sym at) (room.tasks n (omega arith) is_next),
-    ),
-  )
+  pub lower_first : (lower : ℤ) → ((z : ℤ) → (lower ≤ℤ z) ↔ (((stand_of o.stands k).bay ≤ℤ z) ⊎ (tops k ≤ℤ z))) → IsLowerFor 0 lower
+  lower_first lower under = asked_first o k IsHeld IsOver (λ z. lower ≤ℤ z) under
 
   pub lower_more : (n : ℕ) (lower after : ℤ) (off : Option ℕ) → IsOff o k n off
       → ((z : ℤ) → (after ≤ℤ z) ↔ ((lower ≤ℤ z) × IfSome off (λ m. bay_of o.course.inst n ≤ℤ (z +ℤ pos m)))) → IsLowerFor n lower → IsLowerFor (n + 1) after
-  lower_more n lower after None not both is z = (
-    λ le. (lower_same n lower not is z).0 ((both z).0 le).0,
-    λ room. (both z).1 ((lower_same n lower not is z).1 room, tt),
-  )
-  lower_more n lower after (Some m) off both is z = lower_next n lower after m off.0 off.1 both is z
+  lower_more n lower after off is both = asked_more o k IsHeld IsOver n (λ z. lower ≤ℤ z) (λ z. after ≤ℤ z) off is both
 
-  pub lower_all : (n : ℕ) (lower : ℤ) → length o.course.inst.tasks ≤ n → IsLowerFor n lower → IsLower o k from lower
-  lower_all n lower all is z = (
-    λ le. let room : IsFromFor n z = (is z).0 le in record {
-      stand = room.stand;
-      tasks = λ j next. room.tasks j (omega (arith, all, next.left.task)) next;
-    },
-    λ room. (is z).1 (record { stand = room.stand; tasks = λ j low next. room.tasks j next }),
-  )
+  pub lower_all : (n : ℕ) (lower : ℤ) → length o.course.inst.tasks ≤ n → IsLowerFor n lower → IsLower o tops k lower
+  lower_all n lower all is z =
+      let asked = asked_all o k IsHeld IsOver n (λ z. lower ≤ℤ z) all is z in (
+        λ le. record { stand = (asked.0 le).0; tasks = (asked.0 le).1 },
+        λ room. asked.1 (room.stand, room.tasks),
+      )
 
 -- ---- tops
 
@@ -260,12 +230,6 @@ module _ (o : Outlook) where
   not_far : (x y : ℤ) (n : ℕ) → x ≤ℤ (y +ℤ pos n) → y ≤ℤ pos 17000 → n ≤ past_moments → x ≤ℤ pos 2000000000000000
   not_far x y n le rail soon = omega (arith, bays)
 
-  -- a top fits into a number
-  pub top_range : Valid o.course.inst → ((k : ℕ) → IsOnRail (stand_of o.stands k).bay) → o.course.clock < past_moments → (k : ℕ) (top : ℤ)
-      → k < length o.course.inst.cranes → IsTop o k top → (negsuc 39999 ≤ℤ top) × (top ≤ℤ pos 2000000000000000)
-  top_range valid rail early k top low is =
-      (top_low valid rail k top low is, not_far top (stand_of o.stands k).bay (far_of o k) (top_high k top low is) (rail k).1 (far_soon k early))
-
   -- ---- one top more, from the last crane down
 
   pub no_tops : (tops : List ℤ) → length tops ≡ 8 → AreTops o (length o.course.inst.cranes) tops
@@ -289,11 +253,10 @@ module _ (o : Outlook) where
   -- the places of the first n cranes
   pub record ArePlacesFor (tops : ℕ → ℤ) (n : ℕ) (places : List ℤ) : Type 0 where
     pub count : length places ≡ 8
-    pub each_one : (k : ℕ) → k < n → (z : ℤ) → (place_at places k ≤ℤ z) ↔ IsHighEnough o tops (place_at places) k z
-    pub near : (k : ℕ) → k < n → IsPlace k (place_at places k)
+    pub each_one : (k : ℕ) → k < n → IsPlaced o tops (place_at places) k (place_at places k)
 
   pub no_places : (tops : ℕ → ℤ) (places : List ℤ) → length places ≡ 8 → ArePlacesFor tops 0 places
-  no_places tops places count = record { count = count; each_one = λ k low. absurd (omega arith); near = λ k low. absurd (omega arith) }
+  no_places tops places count = record { count = count; each_one = λ k low. absurd (omega arith) }
 
   high_same : (tops one other : ℕ → ℤ) (k : ℕ) (z : ℤ) → ((v : ℕ) → v < k → one v ≡ other v) → IsHighEnough o tops one k z → IsHighEnough o tops other k z
   high_same tops one other k z same is = record {
@@ -302,27 +265,24 @@ module _ (o : Outlook) where
     next = λ v e. subst (λ (x : ℤ). (x +ℤ pos o.course.inst.gap) ≤ℤ z) (same v (omega (arith, e))) (is.next v e);
   }
 
-  pub more_places : (tops : ℕ → ℤ) (n : ℕ) (places : List ℤ) (x : ℤ) → n < 8 → ArePlacesFor tops n places
-      → ((z : ℤ) → (x ≤ℤ z) ↔ IsHighEnough o tops (place_at places) n z) → IsPlace n x → ArePlacesFor tops (n + 1) (slice_set places n x)
-  more_places tops n places x few are is near = record {
+  placed_same : (tops one other : ℕ → ℤ) (k : ℕ) (x y : ℤ) → ((v : ℕ) → v < k → one v ≡ other v) → x ≡ y → IsPlaced o tops one k x → IsPlaced o tops other k y
+  placed_same tops one other k x y same e is = record {
+    lowest = λ z. (
+      λ le. high_same tops one other k z same ((is.lowest z).0 (subst (λ (w : ℤ). w ≤ℤ z) (sym e) le)),
+      λ high. subst (λ (w : ℤ). w ≤ℤ z) e ((is.lowest z).1 (high_same tops other one k z (λ v less. sym (same v less)) high)),
+    );
+    near = subst (IsPlace k) e is.near;
+  }
+
+  pub more_places : (tops : ℕ → ℤ) (n : ℕ) (places : List ℤ) (x : ℤ) → n < 8 → ArePlacesFor tops n places → IsPlaced o tops (place_at places) n x
+      → ArePlacesFor tops (n + 1) (slice_set places n x)
+  more_places tops n places x few are is = let after = place_at (slice_set places n x) in record {
     count = length-set places n x ∙ are.count;
-    each_one = λ k low z. elim (cases_eq k n) [
-      | inl same ↦ subst (λ (u : ℕ). (place_at (slice_set places n x) u ≤ℤ z) ↔ IsHighEnough o tops (place_at (slice_set places n x)) u z) (sym same) (
-        λ le. high_same tops (place_at places) (place_at (slice_set places n x)) n z (λ v less. sym (others v (omega arith))) ((is z).0 (subst (λ (y : ℤ). y ≤ℤ z) here le)),
-        λ high. subst (λ (y : ℤ). y ≤ℤ z) (sym here)
-            ((is z).1 (high_same tops (place_at (slice_set places n x)) (place_at places) n z (λ v less. others v (omega arith)) high)),
-      )
-      | inr other ↦
-          let at = others k (omega arith) in (
-            λ le. high_same tops (place_at places) (place_at (slice_set places n x)) k z (λ v less. sym (others v (omega arith)))
-                ((are.each_one k (omega arith) z).0 (subst (λ (y : ℤ). y ≤ℤ z) at le)),
-            λ high. subst (λ (y : ℤ). y ≤ℤ z) (sym at)
-                ((are.each_one k (omega arith) z).1 (high_same tops (place_at (slice_set places n x)) (place_at places) k z (λ v less. others v (omega arith)) high)),
-          )
-    ];
-    near = λ k low. elim (cases_eq k n) [
-      | inl same ↦ subst (λ (u : ℕ). IsPlace u (place_at (slice_set places n x) u)) (sym same) (subst (IsPlace n) (sym here) near)
-      | inr other ↦ subst (IsPlace k) (sym (others k (omega arith))) (are.near k (omega arith))
+    each_one = λ k low. elim (cases_eq k n) [
+      | inl same ↦ subst (λ (u : ℕ). IsPlaced o tops after u (after u)) (sym same)
+          (placed_same tops (place_at places) after n x (after n) (λ v less. sym (others v (omega arith))) (sym here) is)
+      | inr other ↦ placed_same tops (place_at places) after k (place_at places k) (after k) (λ v less. sym (others v (omega arith))) (sym (others k (omega arith)))
+          (are.each_one k (omega arith))
     ];
   }
     where
@@ -332,79 +292,69 @@ module _ (o : Outlook) where
       others : (v : ℕ) → v ≢ n → place_at (slice_set places n x) v ≡ place_at places v
       others v differ = get_or-set_other places n v x (pos 0) differ
 
-  pub first_places : (tops : ℕ → ℤ) (n m : ℕ) (places : List ℤ) → m ≤ n → ArePlacesFor tops n places → ArePlacesFor tops m places
-  first_places tops n m places few are = record {
-    count = are.count;
-    each_one = λ k low. are.each_one k (omega arith);
-    near = λ k low. are.near k (omega arith);
-  }
-
-  pub all_places : (tops places : List ℤ) → AreTops o 0 tops → ArePlacesFor (place_at tops) (length o.course.inst.cranes) places
+  pub all_places : (n : ℕ) (tops places : List ℤ) → length o.course.inst.cranes ≤ n → AreTops o 0 tops → ArePlacesFor (place_at tops) n places
       → ArePlaces o (place_at tops) (place_at places)
-  all_places tops places are_tops are = record {
+  all_places n tops places all are_tops are = record {
     highest = λ k low. are_tops.each_one k (omega arith) low;
-    each_one = are.each_one;
+    each_one = λ k low. (are.each_one k (omega arith)).lowest;
   }
 
   -- ---- one place
 
-  module _ (tops places : ℕ → ℤ) (k : ℕ) (from own : ℤ)
-      (under : (z : ℤ) → (from ≤ℤ z) ↔ (((stand_of o.stands k).bay ≤ℤ z) ⊎ (tops k ≤ℤ z))) (is : IsLower o k from own) where
-    pub high_first : k ≡ 0 → (z : ℤ) → (own ≤ℤ z) ↔ IsHighEnough o tops places k z
-    high_first first z = (
-      λ le. let room = (is z).0 le in record {
-        stand = (under z).0 room.stand;
-        tasks = room.tasks;
-        next = λ v e. absurd (omega (arith, first, e));
-      },
-      λ high. (is z).1 (record { stand = (under z).1 high.stand; tasks = high.tasks }),
-    )
+  on_rail : (x : ℤ) (n m : ℕ) → x ≤ℤ pos n → n ≤ 6000 → x ≤ℤ (pos 17000 +ℤ pos m)
+  on_rail x n m le few = omega (arith, bays)
 
-    pub high_next : (v : ℕ) (below after : ℤ) → v + 1 ≡ k → below ≡ places v +ℤ pos o.course.inst.gap
-        → ((z : ℤ) → (after ≤ℤ z) ↔ ((own ≤ℤ z) × (below ≤ℤ z))) → (z : ℤ) → (after ≤ℤ z) ↔ IsHighEnough o tops places k z
-    high_next v below after next at both z = (
+  -- it is near where stands are on the rail
+  pub lower_near : (tops : ℕ → ℤ) (k : ℕ) (own : ℤ) → Valid o.course.inst → IsOnRail (stand_of o.stands k).bay → negsuc 39999 ≤ℤ tops k
+      → IsLower o tops k own → IsPlace 0 own
+  lower_near tops k own valid rail deep is = record {
+    low = elim ((is own).0 (itself own)).stand [ inl le ↦ omega (arith, bays, le, rail.0) | inr le ↦ omega (arith, bays, le, deep) ];
+    high = (is (pos 17000)).1 (record {
+      stand = inl rail.1;
+      tasks = λ j next. on_rail (bay_of o.course.inst j) o.course.inst.bays (off_of o j) (valid.tasks.bays j next.left.task).1 (limits_of o.course.inst valid).bays.1;
+    });
+  }
+
+  pub placed_first : (tops places : ℕ → ℤ) (k : ℕ) (own : ℤ) → IsLower o tops k own → IsPlace 0 own → k ≡ 0 → IsPlaced o tops places k own
+  placed_first tops places k own is near first = record {
+    lowest = λ z. (
+      λ le. let room = (is z).0 le in record { stand = room.stand; tasks = room.tasks; next = λ v e. absurd (omega (arith, first, e)) },
+      λ high. (is z).1 (record { stand = high.stand; tasks = high.tasks }),
+    );
+    near = subst (λ (n : ℕ). IsPlace n own) (sym first) near;
+  }
+
+  further : (own below : ℤ) (v g : ℕ) → g ≤ 2000 → own ≤ℤ pos 17000 → below ≤ℤ pos (17000 + 2000 * v)
+      → (own ≤ℤ pos (17000 + 2000 * (v + 1))) × ((below +ℤ pos g) ≤ℤ pos (17000 + 2000 * (v + 1)))
+  further own below v g small high near = (omega (arith, bays), omega (arith, bays))
+
+  pub placed_next : (tops places : ℕ → ℤ) (v k : ℕ) (own after : ℤ) → Valid o.course.inst → IsLower o tops k own → IsPlace 0 own → v + 1 ≡ k → IsPlace v (places v)
+      → ((z : ℤ) → (after ≤ℤ z) ↔ ((own ≤ℤ z) × ((places v +ℤ pos o.course.inst.gap) ≤ℤ z))) → IsPlaced o tops places k after
+  placed_next tops places v k own after valid is near next below both = record {
+    lowest = λ z. (
       λ le.
           let parts = (both z).0 le in
           let room = (is z).0 parts.0 in record {
-            stand = (under z).0 room.stand;
+            stand = room.stand;
             tasks = room.tasks;
             next = λ u e.
                 let same : v ≡ u = omega (arith, next, e) in
-                subst (λ (w : ℕ). (places w +ℤ pos o.course.inst.gap) ≤ℤ z) same (subst (λ (y : ℤ). y ≤ℤ z) at parts.1);
+                subst (λ (w : ℕ). (places w +ℤ pos o.course.inst.gap) ≤ℤ z) same parts.1;
           },
-      λ high. (both z).1 (
-        (is z).1 (record { stand = (under z).1 high.stand; tasks = high.tasks }),
-        subst (λ (y : ℤ). y ≤ℤ z) (sym at) (high.next v next),
-      ),
-    )
-
-    on_rail : (x : ℤ) (n m : ℕ) → x ≤ℤ pos n → n ≤ 6000 → x ≤ℤ (pos 17000 +ℤ pos m)
-    on_rail x n m le few = omega (arith, bays)
-
-    -- it is near where stands are on the rail
-    pub own_near : Valid o.course.inst → IsOnRail (stand_of o.stands k).bay → negsuc 39999 ≤ℤ tops k
-        → ((z : ℤ) → (z ≤ℤ from) ↔ ((z ≤ℤ (stand_of o.stands k).bay) × (z ≤ℤ tops k))) → (negsuc 39999 ≤ℤ own) × (own ≤ℤ pos 17000)
-    own_near valid rail deep over =
-        let start : negsuc 39999 ≤ℤ from = (over (negsuc 39999)).1 (through (negsuc 39999) (negsuc 16999) (stand_of o.stands k).bay (omega (arith, bays)) rail.0, deep) in (
-          through (negsuc 39999) from own start ((is own).0 (itself own)).stand,
-          (is (pos 17000)).1 (record {
-            stand = (under (pos 17000)).1 (inl rail.1);
-            tasks = λ j next. on_rail (bay_of o.course.inst j) o.course.inst.bays (off_of o j) (valid.tasks.bays j next.left.task).1 (limits_of o.course.inst valid).bays.1;
-          }),
-        )
-
-  near_first : (own : ℤ) (k : ℕ) → negsuc 39999 ≤ℤ own → own ≤ℤ pos 17000 → (negsuc 99999 ≤ℤ own) × (own ≤ℤ pos (17000 + 2000 * k))
-  near_first own k low high = (omega (arith, bays), omega (arith, bays))
-
-  pub place_near : (own : ℤ) (k : ℕ) → (negsuc 39999 ≤ℤ own) × (own ≤ℤ pos 17000) → IsPlace k own
-  place_near own k near = let both = near_first own k near.0 near.1 in record { low = both.0; high = both.1 }
-
-  further : (own below : ℤ) (v g : ℕ) → g ≤ 2000 → own ≤ℤ pos 17000 → below ≤ℤ pos (17000 + 2000 * v) → (below +ℤ pos g) ≤ℤ pos (17000 + 2000 * (v + 1))
-  further own below v g small high near = omega (arith, bays)
-
-  pub next_near : (own below after : ℤ) (v g : ℕ) → g ≤ 2000 → (negsuc 39999 ≤ℤ own) × (own ≤ℤ pos 17000) → IsPlace v below
-      → ((z : ℤ) → (after ≤ℤ z) ↔ ((own ≤ℤ z) × ((below +ℤ pos g) ≤ℤ z))) → IsPlace (v + 1) after
-  next_near own below after v g small near is both = record {
-    low = through (negsuc 99999) own after (through (negsuc 99999) (negsuc 39999) own (omega (arith, bays)) near.0) ((both after).0 (itself after)).0;
-    high = (both (pos (17000 + 2000 * (v + 1)))).1 ((near_first own (v + 1) near.0 near.1).1, further own below v g small near.1 is.high);
+      λ high. (both z).1 ((is z).1 (record { stand = high.stand; tasks = high.tasks }), high.next v next),
+    );
+    near = subst (λ (n : ℕ). IsPlace n after) next (record {
+      low = through (negsuc 99999) own after near.low ((both after).0 (itself after)).0;
+      high = (both (pos (17000 + 2000 * (v + 1)))).1 (further own (places v) v o.course.inst.gap (limits_of o.course.inst valid).gap.1 near.high below.high);
+    });
   }
+
+-- a top fits into a number
+pub top_range : {w : code.Outlook} {from : ℕ} {tops : List ℤ} → IsReady w → AreTops (view_of w) from tops → (k : ℕ) → from ≤ k
+    → k < length w.journal.now.dispatch.inst.cranes → (negsuc 39999 ≤ℤ place_at tops k) × (place_at tops k ≤ℤ pos 2000000000000000)
+top_range {w = w} {tops = tops} ready are k order low =
+    let o = view_of w in
+    let is : IsTop o k (place_at tops k) = are.each_one k order low in (
+      top_low o ready.known.valid ready.limited.rail k _ low is,
+      not_far o _ (stand_of o.stands k).bay (far_of o k) (top_high o k _ low is) (ready.limited.rail k).1 (far_soon o k ready.known.early),
+    )
