@@ -14,12 +14,6 @@ use Rattle.qc_odds.specs.declared.order.PlannedStart.{PlannedStart}
 
 module _ (inst : InstanceView) (plan : List Slot) (lengths starts : List ℕ) where
   -- ---- one pair of tasks
-  pub unmarked_no : (marked : List Bool) (j next : ℕ) → is_marked marked next ≡ false → IsTrue false ↔ HoldsUp inst plan lengths starts marked j next
-  unmarked_no marked j next un = (λ no'. absurd (false≢true no'), λ held. absurd (false≢true (sym un ∙ held.is)))
-
-  pub unled_no : (marked : List Bool) (j next : ℕ) → (Leads inst plan j next → ⊥) → IsTrue false ↔ HoldsUp inst plan lengths starts marked j next
-  unled_no marked j next un = (λ no'. absurd (false≢true no'), λ held. absurd (un held.leads))
-
   pub held_by : (marked : List Bool) (j next : ℕ) (same : Bool) → is_marked marked next ≡ true → Leads inst plan j next
       → ((same ≡ true) ↔ (end_in lengths starts j + gap inst plan j next ≡ slice_index starts next)) → IsTrue same ↔ HoldsUp inst plan lengths starts marked j next
   held_by marked j next same is leads tight = (λ yes'. record { leads = leads; tight = tight.0 yes'; is = is }, λ held. tight.1 held.tight)

@@ -8,6 +8,7 @@ pub mod Tally
 pub mod Moments
 pub mod Order
 pub mod Kept
+pub mod Worked
 pub mod Runs
 pub mod Sums
 pub mod Small

@@ -10,10 +10,9 @@ ghost use Rattle.qc_odds.specs.Moments.{AreSoon, most_end, most_held};
 ghost use Rattle.qc_odds.specs.Order.{AreTurns};
 ghost use Rattle.qc_odds.specs.Runs.{crane_end, held};
 
-use crate::crane_run::{crane_end, held};
-use crate::critical::mark_critical;
 use crate::order::{PlannedStart, turns_of};
 use crate::pass::work;
+use crate::run::Run;
 use qc_dispatch::lead_marks;
 use qc_model::{Instance, Schedule, Slot, copy};
 use qc_num::{OutOfMemory, Tick};
@@ -139,6 +138,26 @@ impl Course {
         )
     }
 
+    /// The run that had these lengths.
+    fn worked<'a>(&'a self, lengths: &'a [Tick]) -> Run<'a>
+        requires lengths { AreLengths self.now.inst lengths.now }
+        requires soon { AreSoon self.now.starts }
+        ensures { result ≡ record {
+          inst = self.now.inst;
+          plan = self.now.plan;
+          lengths = lengths.now;
+          starts = self.now.starts;
+        } }
+    {
+        Run {
+            inst: &self.inst,
+            slots: self.slots.as_slice(),
+            marks: self.marks.as_slice(),
+            lengths,
+            starts: self.starts.as_slice(),
+        }
+    }
+
     /// Marks the critical tasks of the run that had these lengths and this last end: with a tick more of one of them
     /// the run ends later, and of no other.
     pub fn mark_critical(&self, lengths: &[Tick], last: Tick, marked: &mut [bool])
@@ -147,16 +166,8 @@ impl Course {
         requires count { length marked.old ≡ length self.now.inst.tasks }
         ensures { AreMarked self.now.inst self.now.plan lengths.now self.now.starts last marked.new }
     {
-        mark_critical(
-            &self.inst,
-            self.slots.as_slice(),
-            self.marks.as_slice(),
-            self.turns.as_slice(),
-            lengths,
-            self.starts.as_slice(),
-            last,
-            marked,
-        );
+        self.worked(lengths)
+            .mark_critical(self.turns.as_slice(), last, marked);
     }
 
     /// When a crane is through with its tasks in the run that had these lengths; 0 where it has none.
@@ -166,13 +177,7 @@ impl Course {
         ensures ticks { result ≡ crane_end self.now.inst self.now.plan lengths.now self.now.starts crane }
         ensures bound { result ≤ most_end }
     {
-        crane_end(
-            &self.inst,
-            self.slots.as_slice(),
-            lengths,
-            self.starts.as_slice(),
-            crane,
-        )
+        self.worked(lengths).crane_end(crane)
     }
 
     /// For how many ticks a crane stood at its tasks and waited in the run that had these lengths.
@@ -182,13 +187,7 @@ impl Course {
         ensures ticks { result ≡ held self.now.inst self.now.plan lengths.now self.now.starts crane }
         ensures bound { result ≤ most_held }
     {
-        held(
-            &self.inst,
-            self.slots.as_slice(),
-            lengths,
-            self.starts.as_slice(),
-            crane,
-        )
+        self.worked(lengths).held(crane)
     }
 
     /// The instance of the plan.

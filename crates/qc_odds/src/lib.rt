@@ -9,7 +9,6 @@
 #![tactic(auto)]
 
 mod course;
-mod crane_run;
 mod critical;
 mod draws;
 mod laws;
@@ -17,6 +16,7 @@ mod odds;
 mod order;
 mod pass;
 mod pool;
+mod run;
 mod run_lengths;
 mod simulation;
 mod sums;

@@ -54,31 +54,6 @@ fn clear(starts: &mut [Tick])
     }
 }
 
-/// Fills in the starts of all tasks, one after the other in the order of their turns.
-fn pass(
-    inst: &Instance,
-    slots: &[Slot],
-    marks: &[bool],
-    turns: &[PlannedStart],
-    lengths: &[Tick],
-    starts: &mut [Tick],
-)
-    requires plan { Feasible inst.now slots.now }
-    requires marks { AreMarks inst.now slots.now marks.now }
-    requires turns { AreTurns inst.now slots.now turns.now }
-    requires lengths { AreLengths inst.now lengths.now }
-    requires count { length starts.old ≡ length inst.now.tasks }
-    ensures starts { AreStarts inst.now slots.now lengths.now starts.new }
-    ensures early { AreEarly starts.new most_moment }
-{
-    clear(starts);
-    for at in 0..inst.task_count() {
-        let task = turns[at as usize].task;
-        let start = due(inst, slots, marks, lengths, starts, task);
-        starts[task as usize] = start;
-    }
-}
-
 /// The last end of all tasks, 0 without tasks.
 fn last_end(lengths: &[Tick], starts: &[Tick]) -> Tick
     requires count { length lengths.now ≡ length starts.now }
@@ -93,7 +68,7 @@ fn last_end(lengths: &[Tick], starts: &[Tick]) -> Tick
     last
 }
 
-/// Fills in the starts of all tasks, and tells the last end.
+/// Fills in the starts of all tasks, one after the other in the order of their turns, and tells the last end.
 pub(crate) fn work(
     inst: &Instance,
     slots: &[Slot],
@@ -111,6 +86,11 @@ pub(crate) fn work(
     ensures end { IsLastEnd lengths.now starts.new result }
     ensures soon { AreSoon starts.new }
 {
-    pass(inst, slots, marks, turns, lengths, starts);
+    clear(starts);
+    for at in 0..inst.task_count() {
+        let task = turns[at as usize].task;
+        let start = due(inst, slots, marks, lengths, starts, task);
+        starts[task as usize] = start;
+    }
     last_end(lengths, starts)
 }

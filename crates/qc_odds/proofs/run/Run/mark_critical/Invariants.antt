@@ -1,10 +1,10 @@
 use Rattle.std.proofs.Common.{◌≤◌, length}
 use Rattle.qc_odds.proofs.MarkLemmas.{IsMarkedFrom}
-use Rattle.qc_odds.proofs.critical.mark_critical.Given as goal
+use Rattle.qc_odds.proofs.run.Run.mark_critical.Given as goal
 
 abbrev pub invariant-loop-left : goal.invariant-loop-left
 invariant-loop-left l = record {
-  marked : IsMarkedFrom l.inst l.slots l.lengths l.starts l.last l.turns l.left l.marked;
+  marked : IsMarkedFrom l.self.inst l.self.plan l.self.lengths l.self.starts l.last l.turns l.left l.marked;
   within : l.left ≤ length l.turns;
 }
 

@@ -1,11 +1,11 @@
 use Rattle.std.proofs.Common.{arith}
 use Rattle.qc_dist.proofs.Ranges.{sum_more}
 use Rattle.qc_odds.specs.Runs.{held, held_at}
-use Rattle.qc_odds.proofs.crane_run.held.Goals as goal
+use Rattle.qc_odds.proofs.run.Run.held.Goals as goal
 
 pub loop-j-preserved : goal.loop-j-preserved
 loop-j-preserved c = record {
-  so_far = omega (arith, sum_more (held_at c.args.inst.now c.args.slots.now c.args.lengths.now c.args.starts.now c.args.crane) c.loop-j.j);
+  so_far = omega (arith, sum_more (held_at c.args.self.now.inst c.args.self.now.plan c.args.self.now.lengths c.args.self.now.starts c.args.crane) c.loop-j.j);
   bound = omega arith;
 }
 

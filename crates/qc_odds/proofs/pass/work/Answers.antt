@@ -4,7 +4,7 @@ use Rattle.qc_odds.specs.Moments.{moment_by}
 use Rattle.qc_odds.specs.Order.{task_at}
 use Rattle.qc_odds.proofs.OrderLemmas.{task_read}
 use Rattle.qc_odds.proofs.PassLemmas.{IsPassed, all_passed, next_passed, none_passed}
-use Rattle.qc_odds.proofs.pass.pass.Goals as goal
+use Rattle.qc_odds.proofs.pass.work.Goals as goal
 
 pub loop-at-init : goal.loop-at-init
 loop-at-init c =

@@ -1,15 +1,17 @@
-use Rattle.std.proofs.Common.{◌≡◌, ◌-◌, ◌+◌, ◌<◌, ℕ, IsTrue, ◌↔◌, length, set, sym, subst, arith}
+use Rattle.std.proofs.Common.{◌≡◌, ◌-◌, ◌+◌, ◌<◌, ℕ, IsTrue, ◌↔◌, length, set, ap, sym, subst, ◌∙◌, arith}
 use Rattle.qc_odds.specs.Critical.{Matters}
 use Rattle.qc_odds.specs.Order.{task_at}
+use Rattle.qc_odds.specs.Worked.{RunView}
 use Rattle.qc_odds.proofs.MarkLemmas.{IsMarkedFrom, all_marked, next_marked, none_marked}
 use Rattle.qc_odds.proofs.OrderLemmas.{task_read}
-use Rattle.qc_odds.proofs.critical.mark_critical.Goals as goal
+use Rattle.qc_odds.proofs.run.Run.mark_critical.Goals as goal
 
 pub loop-left-init : goal.loop-left-init
 loop-left-init c =
-    let all = c.task_count-left.ensures.count in
+    let run = c.args.self.now in
+    let all = c.task_count-left.ensures.count ∙ ap (λ (r : RunView). length r.inst.tasks) c.self.view_is in
     record {
-      marked = none_marked c.args.inst.now c.args.slots.now c.args.lengths.now c.args.starts.now c.args.last c.args.turns.now c.task_count-left.result c.args.marked.now
+      marked = none_marked run.inst run.plan run.lengths run.starts c.args.last c.args.turns.now c.task_count-left.result c.args.marked.now
           (omega (arith, all, c.requires.turns.count)) c.requires.count;
       within = omega (arith, all, c.requires.turns.count);
     }
@@ -18,7 +20,7 @@ pub matters-is-requires-clause-task : goal.matters-is-requires-clause-task
 matters-is-requires-clause-task c =
     let p = c.loop-left.left - 1 in
     let low : p < length c.args.turns.now = omega (arith, c.loop-left-test.true, c.loop-left.invariant.within) in
-    subst (λ (k : ℕ). k < length c.args.inst.now.tasks) (task_read c.args.turns.now p low) (c.requires.turns.inside p low)
+    subst (λ (k : ℕ). k < length c.args.self.now.inst.tasks) (task_read c.args.turns.now p low) (c.requires.turns.inside p low)
 
 pub bounds-marked-task : goal.bounds-marked-task
 bounds-marked-task c =
@@ -29,10 +31,7 @@ bounds-marked-task c =
 
 pub loop-left-preserved : goal.loop-left-preserved
 loop-left-preserved c =
-    let inst = c.args.inst.now in
-    let plan = c.args.slots.now in
-    let lengths = c.args.lengths.now in
-    let starts = c.args.starts.now in
+    let run = c.args.self.now in
     let last = c.args.last in
     let turns = c.args.turns.now in
     let marked = c.loop-left.marked in
@@ -42,14 +41,15 @@ loop-left-preserved c =
     let low : p < length turns = omega (arith, c.loop-left-test.true, c.loop-left.invariant.within) in
     let next : left ≡ p + 1 = omega (arith, c.loop-left-test.true) in
     let is = task_read turns p low in
-    let says = subst (λ (k : ℕ). IsTrue v ↔ Matters inst plan lengths starts last marked k) (sym is) c.matters-is.ensures in
+    let says = subst (λ (k : ℕ). IsTrue v ↔ Matters run.inst run.plan run.lengths run.starts last marked k) (sym is) c.matters-is.ensures in
     record {
-      marked = subst (λ (k : ℕ). IsMarkedFrom inst plan lengths starts last turns p (set marked k v)) is
-          (next_marked inst plan lengths starts last turns c.requires.turns p left next low marked c.loop-left.invariant.marked v says);
+      marked = subst (λ (k : ℕ). IsMarkedFrom run.inst run.plan run.lengths run.starts last turns p (set marked k v)) is
+          (next_marked run.inst run.plan run.lengths run.starts last turns c.requires.turns p left next low marked c.loop-left.invariant.marked v says);
       within = omega (arith, low);
     }
 
 pub returns : goal.returns
 returns c =
-    all_marked c.args.inst.now c.args.slots.now c.args.lengths.now c.args.starts.now c.args.last c.args.turns.now c.loop-left.left c.loop-left.marked
-    c.requires.turns (omega (arith, c.loop-left-test.false)) c.loop-left.invariant.marked
+    let run = c.args.self.now in
+    all_marked run.inst run.plan run.lengths run.starts c.args.last c.args.turns.now c.loop-left.left c.loop-left.marked c.requires.turns
+    (omega (arith, c.loop-left-test.false)) c.loop-left.invariant.marked
