@@ -22,9 +22,10 @@ make_by() {
     return "$1"
 }
 
-# How many minutes that takes at most from nothing on four processors, by what each crate took on a slow machine.
+# How many minutes that takes from nothing on four processors, by what each crate took on a slow machine: where crates
+# wait for others, three of the four are at work.
 minutes_to_prove() {
-    awk '{ all += $2 } END { printf "%d", all / 60 / 4 }' "$here/package/seconds"
+    awk '{ all += $2 } END { printf "%d", all / 60 / 3 }' "$here/package/seconds"
 }
 
 # Proves and builds the program.
@@ -46,7 +47,7 @@ if ! "$here/package/is-built" --checked; then
         echo 'qc: the program must be built, and the command rt of the Rattle toolchain is not on PATH' >&2
         exit 1
     fi
-    echo 'qc: compiling the program from its sources, which takes some two minutes at first' >&2
+    echo 'qc: compiling the program from its sources, which takes two to three minutes at first' >&2
     make_by try-program
     case $? in
         0)
