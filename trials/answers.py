@@ -119,6 +119,12 @@ def whole_answer(command, files):
     return replan.answer(read)
 
 
+def is_of_a_round(command, ship, stow, tree):
+    """Whether this is the whole tree of a search, `plan` or `free`, as one of its rounds leaves it."""
+    files = {"ship": ship, "stow": stow, {"plan": "tree", "free": "freetree"}[command]: tree}
+    return answer({"plan": "check", "free": "freecheck"}[command], files, [], True)[0] == 0
+
+
 def written(command, files):
     """The files that a command makes that searches nothing, by their roles."""
     made = whole_answer(command, files)[2] if command in WRITTEN else None

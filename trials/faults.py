@@ -133,10 +133,12 @@ def is_narrow(value):
 
 
 def read_table(data):
-    """The table of a file. Wider numbers than of 64 bits are refused, and the seconds of a time may be left out, as in
-    TOML 1.1; Python's reader stands at 1.0 and takes numbers of any width."""
+    """The table of a file. A byte order mark at its beginning is passed over, wider numbers than of 64 bits are refused,
+    and the seconds of a time may be left out, as in TOML 1.1; Python's reader stands at 1.0, takes no such mark, and
+    numbers of any width."""
     try:
-        table = tomllib.loads(re.sub(r"(?<![\d:+-])(\d\d:\d\d)(?![\d:])", r"\1:00", data.decode()))
+        text = data.removeprefix(b"\xef\xbb\xbf").decode()
+        table = tomllib.loads(re.sub(r"(?<![\d:+-])(\d\d:\d\d)(?![\d:])", r"\1:00", text))
     except (UnicodeDecodeError, tomllib.TOMLDecodeError):
         raise Fault("NotToml") from None
     if not is_narrow(table):

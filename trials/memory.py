@@ -9,7 +9,8 @@ nth refused, once with the nth and all after it. Each run must come to one of
 - `OutOfMemory`, or nothing at all, with status 9 and every file as before the run;
 - the same status, report and files as without a refusal;
 - a fault of the file that was being opened or begun: `ReadFault f` with every file as before, or `WriteFault` with
-  the first so many of its files whole but for the last, all others as before, and no further file.
+  the first so many of its files whole but for the last, all others as before, and no further file; TREE may also be
+  that of an earlier round of the search, which answers.py takes for the whole tree of a bound.
 
 The program is run with `-q`, and nothing may stand on standard error. With --voice it is run without, and lines may
 stand there that begin with `qc: `.
@@ -30,6 +31,7 @@ import tempfile
 
 sys.dont_write_bytecode = True  # no folder of compiled files beside the scripts
 
+from answers import is_of_a_round
 from inputs import CHANCES, CHANCES_INPUTS, LEFT, LEFT_INPUTS, LISTED, LISTED_INPUTS, OLDER, OUTPUTS
 from tried import add_program, commands_of, program_of
 
@@ -167,7 +169,7 @@ class Runs:
             return whole, [int(number) for number in file.read().split()]
 
 
-def verdict(ran, whole, files, voice, outputs):
+def verdict(ran, whole, files, voice, outputs, command):
     status, report, left, errors = ran
     if not all(voice and line.startswith(b"qc: ") for line in errors.splitlines()):
         return f"standard error {errors!r}"
@@ -182,6 +184,9 @@ def verdict(ran, whole, files, voice, outputs):
         is_kept = {**files, **{name: whole[2][name] for name in new}} == left
         if is_kept and new == list(outputs[:len(new)]) and len(new) < len(outputs):
             return f"WriteFault, {len(new)} of {len(outputs)} files whole"
+        tree = left.get("t")
+        if command in ("plan", "free") and tree and left == {**files, "t": tree} and is_of_a_round(command, files["s"], files["m"], tree):
+            return "WriteFault, tree of a round, plan as before"
     return f"WRONG: status {status}, report {report[:80]!r}, files {sorted(left)}"
 
 
@@ -196,7 +201,7 @@ def refuse_all(job):
         for number in range(1, calls + 1):
             for how in ("REFUSE_AT", "REFUSE_FROM"):
                 ran = runs.run(words, files, **{how: number})
-                seen[verdict(ran, whole, files, voice, outputs)] += 1
+                seen[verdict(ran, whole, files, voice, outputs, words[0])] += 1
     made = f", {before_first} before the first file was begun, {before_last - before_first} from then to the last, " \
            f"{calls - before_last} after it" if before_first >= 0 else ""
     return f"{name}: status {whole[0]}, {calls} allocations{made}", seen

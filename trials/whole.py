@@ -36,7 +36,7 @@ import time
 
 sys.dont_write_bytecode = True  # no folder of compiled files beside the scripts
 
-from answers import answer
+from answers import is_of_a_round
 from inputs import CHANCES, CHANCES_INPUTS, LEFT, LEFT_INPUTS, LISTED, LISTED_INPUTS, OLDER, OUTPUTS
 from tried import add_program, commands_of, program_of
 
@@ -119,12 +119,6 @@ def calls_of(program, inputs, older, words, others):
         return collections.Counter(re.findall(r"^(\w+)\(", room.read("log").decode(errors="replace"), re.MULTILINE))
 
 
-def is_of_a_round(command, inputs, tree):
-    """Whether this is the whole tree of a search, as an earlier round leaves it."""
-    files = {"ship": inputs[0], "stow": inputs[1], {"plan": "tree", "free": "freetree"}[command]: tree}
-    return answer({"plan": "check", "free": "freecheck"}[command], files, [], True)[0] == 0
-
-
 def judge(left, older, whole, others, outputs, command, inputs):
     """What a stopped run left, or None where it may not be left: of its files, the first so many are whole."""
     before = {name: OLDER[name] for name in older}
@@ -134,7 +128,7 @@ def judge(left, older, whole, others, outputs, command, inputs):
         return None
     states = ["as before" if left.get(name) == before.get(name) else "whole" if left.get(name) == whole[name] else None
               for name in outputs]
-    if command in ("plan", "free") and states == [None, "as before"] and is_of_a_round(command, inputs, left.get("t") or b""):
+    if command in ("plan", "free") and states == [None, "as before"] and is_of_a_round(command, *inputs[:2], left.get("t") or b""):
         return "tree of a round, plan as before"
     if None in states or sorted(states, reverse=True) != states:
         return None
@@ -166,7 +160,7 @@ def kills(program, name, inputs, words, others):
             seen[what] += 1
             if what is None:
                 bad.append(f"{call} {number}: {sorted(left)}")
-        told(f"{name}, killed at each of {sum(seen.values())} calls, over {'and '.join(older) or 'no older files'}", not bad,
+        told(f"{name}, killed at each of {sum(seen.values())} calls, over {' and '.join(older) or 'no older files'}", not bad,
              ", ".join(f"{count} times {what}" for what, count in sorted(seen.items(), key=str))
              + f"; {kept} times a part was left behind" + (f"; {bad[:3]}" if bad else ""))
 
@@ -189,7 +183,7 @@ def failures(program, name, inputs, words, others):
             seen[f"{ran.returncode} {first}".strip() + f", {what}"] += 1
             if not right or any(".part" in one for one in left) and call not in ("unlink", "close"):
                 bad.append(f"{call} {number}: {ran.returncode} {first} {sorted(left)}")
-        told(f"{name}, each of {sum(seen.values())} calls fails, over {'and '.join(older) or 'no older files'}", not bad,
+        told(f"{name}, each of {sum(seen.values())} calls fails, over {' and '.join(older) or 'no older files'}", not bad,
              ", ".join(f"{count} times {what}" for what, count in sorted(seen.items())) + (f"; {bad[:6]}" if bad else ""))
 
 
