@@ -185,7 +185,8 @@ def verdict(ran, whole, files, voice, outputs, command):
         if is_kept and new == list(outputs[:len(new)]) and len(new) < len(outputs):
             return f"WriteFault, {len(new)} of {len(outputs)} files whole"
         tree = left.get("t")
-        if command in ("plan", "free") and tree and left == {**files, "t": tree} and is_of_a_round(command, files["s"], files["m"], tree):
+        is_alone = command in ("plan", "free") and tree and left == {**files, "t": tree}
+        if is_alone and is_of_a_round(command, files["s"], files["m"], tree):
             return "WriteFault, tree of a round, plan as before"
     return f"WRONG: status {status}, report {report[:80]!r}, files {sorted(left)}"
 
